@@ -1,0 +1,124 @@
+-- What the constructors' good answers say, for those who call them.
+use Prim.Native.Nat.{ℕ, _≤_, _<_}
+use mathlib.Core.Path.{_≡_, refl, ap}
+use mathlib.Core.Bool.{Bool, true, false, cond}
+use mathlib.Core.Logic.{_⊎_, inl, inr}
+use native.Mathlib.Omega.{arith}
+use lib.Dec.{ltb, leb, eqb}
+use borrow.Author.Tests.{ltb-true, ltb-false, leb-true, leb-false, eqb-true, eqb-false}
+use Rattle.loops.specs.Chain.{past, stays}
+use Rattle.kinds.specs.Limits.{mostStops, mostRuns, noPivot, lastMinute, mostTrip, mostCode}
+use Rattle.kinds.specs.Kinds.{isStopCount, isRunCount, stopOf, minuteOf, runOf, labelOf}
+use Rattle.kinds.specs.declared.StopRead.{StopRead}
+use Rattle.kinds.specs.declared.StopRead.the-variants as stop
+use Rattle.kinds.specs.declared.MinuteRead.{MinuteRead}
+use Rattle.kinds.specs.declared.MinuteRead.the-variants as minute
+use Rattle.kinds.specs.declared.Stop.{Stop}
+use Rattle.kinds.specs.declared.Minute.{Minute}
+use Rattle.kinds.specs.declared.Run.{Run}
+use Rattle.kinds.specs.declared.RunRead.{RunRead}
+use Rattle.kinds.specs.declared.RunRead.the-variants as run
+use Rattle.kinds.specs.declared.Label.{Label}
+use Rattle.kinds.specs.declared.LabelRead.{LabelRead}
+use Rattle.kinds.specs.declared.LabelRead.the-variants as label
+
+pub stop-count : (n : ℕ) → isStopCount n ≡ true → (1 ≤ n) × (n ≤ mostStops)
+unfolding isStopCount
+stop-count n e =
+    let z = past (eqb n 0) e (λ x. let y : _≡_ {A = ℕ} 0 1 = cc in omega arith) in
+    let l = leb-true n mostStops (z .1) in
+    (omega (arith, eqb-false n 0 (z .0)), l)
+
+pub run-count : (n : ℕ) → isRunCount n ≡ true → n ≤ mostRuns
+unfolding isRunCount
+run-count n e = leb-true n mostRuns e
+
+pub stop-good : (n count : ℕ) (s : Stop) → stopOf n count ≡ stop.Good s → (s .0 ≡ n) × (n < count)
+unfolding stopOf
+stop-good n count s e =
+    let z = stays (ltb n count) e (λ x. let y : _≡_ {A = ℕ} 0 1 = cc in omega arith) in
+    let f = z .1 in
+    (cc, ltb-true n count (z .0))
+
+pub minute-good : (n : ℕ) (m : Minute) → minuteOf n ≡ minute.Good m → (m .0 ≡ n) × (n ≤ lastMinute)
+unfolding minuteOf
+minute-good n m e =
+    let z = stays (leb n lastMinute) e (λ x. let y : _≡_ {A = ℕ} 0 1 = cc in omega arith) in
+    let f = z .1 in
+    (cc, leb-true n lastMinute (z .0))
+
+-- the five numbers of a good run
+pub record GoodRun (stops from to dep arr trip : ℕ) : Type 0 where
+  pub from-stop : from < stops
+  pub to-stop : to < stops
+  pub apart : from ≡ to → ⊥
+  pub later : dep < arr
+  pub last : arr ≤ lastMinute
+  pub trip-least : 0 < trip
+  pub trip-most : trip ≤ mostTrip
+
+pub run-good : (stops from to dep arr t : ℕ) (r : Run) → runOf stops from to dep arr t ≡ run.Good r →
+    GoodRun stops from to dep arr t × (r ≡ record { from = from; to = to; dep = dep; arr = arr; trip = t })
+unfolding runOf
+run-good stops from to dep arr t r e =
+    let z₁ = past (leb stops from) e (λ x. let y : _≡_ {A = ℕ} 0 1 = cc in omega arith) in
+    let z₂ = past (leb stops to) (z₁ .1) (λ x. let y : _≡_ {A = ℕ} 0 1 = cc in omega arith) in
+    let z₃ = past (eqb from to) (z₂ .1) (λ x. let y : _≡_ {A = ℕ} 0 1 = cc in omega arith) in
+    let z₄ = past (leb arr dep) (z₃ .1) (λ x. let y : _≡_ {A = ℕ} 0 1 = cc in omega arith) in
+    let z₅ = past (ltb lastMinute arr) (z₄ .1) (λ x. let y : _≡_ {A = ℕ} 0 1 = cc in omega arith) in
+    let z₆ = past (eqb t 0) (z₅ .1) (λ x. let y : _≡_ {A = ℕ} 0 1 = cc in omega arith) in
+    let z₇ = past (ltb mostTrip t) (z₆ .1) (λ x. let y : _≡_ {A = ℕ} 0 1 = cc in omega arith) in
+    let f = z₇ .1 in (
+      record {
+        from-stop = leb-false stops from (z₁ .0);
+        to-stop = leb-false stops to (z₂ .0);
+        apart = eqb-false from to (z₃ .0);
+        later = leb-false arr dep (z₄ .0);
+        last = ltb-false lastMinute arr (z₅ .0);
+        trip-least = omega (arith, eqb-false t 0 (z₆ .0));
+        trip-most = ltb-false mostTrip t (z₇ .0);
+      },
+      cc,
+    )
+
+-- a pivot is none, or "more than the hub, less than n and not the owner"
+pub record GoodPivot (stops owner hub pivot : ℕ) : Type 0 where
+  pub above : hub < pivot
+  pub below : pivot < stops
+  pub other : pivot ≡ owner → ⊥
+
+pub record GoodLabel (stops owner hub dep arr pivot : ℕ) : Type 0 where
+  pub low : hub < owner
+  pub later : dep < arr
+  pub last : arr ≤ lastMinute
+  pub pivoted : (pivot ≡ noPivot) ⊎ GoodPivot stops owner hub pivot
+
+pub label-good : (stops owner hub dep arr pivot : ℕ) (l : Label) → labelOf stops owner hub dep arr pivot ≡ label.Good l →
+    GoodLabel stops owner hub dep arr pivot × (l ≡ record { hub = hub; dep = dep; arr = arr; pivot = pivot })
+unfolding labelOf
+label-good stops owner hub dep arr pivot l e =
+    let z₁ = past (leb owner hub) e (λ x. let y : _≡_ {A = ℕ} 0 1 = cc in omega arith) in
+    let z₂ = past (leb arr dep) (z₁ .1) (λ x. let y : _≡_ {A = ℕ} 0 1 = cc in omega arith) in
+    let z₃ = past (ltb lastMinute arr) (z₂ .1) (λ x. let y : _≡_ {A = ℕ} 0 1 = cc in omega arith) in
+    go (leb-false owner hub (z₁ .0)) (leb-false arr dep (z₂ .0)) (ltb-false lastMinute arr (z₃ .0)) (eqb pivot noPivot) (eqb-true pivot noPivot) (z₃ .1)
+  where
+    good : LabelRead
+    good = label.Good (record { hub = hub; dep = dep; arr = arr; pivot = pivot })
+
+    go : hub < owner → dep < arr → arr ≤ lastMinute → (b : Bool) → (b ≡ true → pivot ≡ noPivot) →
+        cond b good (cond (leb pivot hub) label.Bad (cond (leb stops pivot) label.Bad (cond (eqb pivot owner) label.Bad good))) ≡ label.Good l →
+        GoodLabel stops owner hub dep arr pivot × (l ≡ record { hub = hub; dep = dep; arr = arr; pivot = pivot })
+    go h₁ h₂ h₃ true p f = (record { low = h₁; later = h₂; last = h₃; pivoted = inl (p refl) }, cc)
+    go h₁ h₂ h₃ false p f =
+        let z₅ = past (leb pivot hub) f (λ x. let y : _≡_ {A = ℕ} 0 1 = cc in omega arith) in
+        let z₆ = past (leb stops pivot) (z₅ .1) (λ x. let y : _≡_ {A = ℕ} 0 1 = cc in omega arith) in
+        let z₇ = past (eqb pivot owner) (z₆ .1) (λ x. let y : _≡_ {A = ℕ} 0 1 = cc in omega arith) in
+        let g = z₇ .1 in (
+          record {
+            low = h₁;
+            later = h₂;
+            last = h₃;
+            pivoted = inr (record { above = leb-false pivot hub (z₅ .0); below = leb-false stops pivot (z₆ .0); other = eqb-false pivot owner (z₇ .0) });
+          },
+          cc,
+        )

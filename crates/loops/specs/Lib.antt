@@ -1,0 +1,10 @@
+pub mod Zero
+pub mod ZeroLaws
+pub mod First
+pub mod FirstLaws
+pub mod Fold
+pub mod FoldLaws
+pub mod Every
+pub mod EveryLaws
+pub mod Decide
+pub mod Chain
