@@ -5,3 +5,7 @@ pub mod Tables
 pub mod Rule
 pub mod Check
 pub mod Rides
+pub mod PairLaws
+pub mod CriteriaLaws
+pub mod JourneyLaws
+pub mod ReachLaws
