@@ -9,3 +9,5 @@ pub mod PairLaws
 pub mod CriteriaLaws
 pub mod JourneyLaws
 pub mod ReachLaws
+pub mod SketchLaws
+pub mod AcceptedLaws
