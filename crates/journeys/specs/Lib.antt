@@ -11,3 +11,6 @@ pub mod JourneyLaws
 pub mod ReachLaws
 pub mod SketchLaws
 pub mod AcceptedLaws
+pub mod RuleLaws
+pub mod RidesLaws
+pub mod EarliestLaws
