@@ -14,3 +14,5 @@ pub mod AcceptedLaws
 pub mod RuleLaws
 pub mod RidesLaws
 pub mod EarliestLaws
+pub mod Example
+pub mod ExampleLaws
