@@ -1,9 +1,10 @@
 -- Given numbers: "a stop count, a run count and a list of five numbers a run". What they say, and how they are judged.
 use Prim.Native.Nat.{ℕ, zero, suc, _+_, _*_, _≤_, _<_}
 use mathlib.Core.List.{List}
-use mathlib.Core.Bool.{Bool, true, cond}
+use mathlib.Core.Bool.{true}
 use lib.ListN.{length, getD}
 use lib.Dec.{leb}
+use Rattle.loops.specs.Unless.{unless}
 use Rattle.kinds.specs.Limits.{mostStops, mostRuns, runNumbers}
 use Rattle.kinds.specs.Refusals.{overLimit, roomShort, refusal}
 use Rattle.kinds.specs.Kinds.{isStopCount, isRunCount, runOf}
@@ -54,10 +55,6 @@ andThen (No r) next = No r
 unfoldable pub judgedUpTo : ℕ → List ℕ → ℕ → Judged
 judgedUpTo stops list zero = Good
 judgedUpTo stops list (suc k) = andThen (judgedUpTo stops list k) (judgedRun (readRun stops list k) k)
-
--- a refusal unless the test holds
-abbrev pub unless : Bool → Judged → Judged → Judged
-unless b refused rest = cond b rest refused
 
 -- "8, then 17, then by run": "Refusal 8 is for a stop count of 0 or over 255 or a run count over 4,096; 17 for a list shorter than the runs
 -- need. Numbers beyond are not read." For working room 17 "stands with the timetable's 17": so much is lent, so much is needed.
