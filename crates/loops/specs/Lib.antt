@@ -8,3 +8,4 @@ pub mod Every
 pub mod EveryLaws
 pub mod Decide
 pub mod Chain
+pub mod Unless

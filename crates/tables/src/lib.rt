@@ -1,0 +1,121 @@
+// The tables file. Everything above reads labels only through what this crate promises.
+use kinds::Label;
+use kinds::LabelRead;
+use kinds::Refusal;
+ghost use mathlib.Core.Path.{_≡_};
+ghost use Prim.Native.Nat.{ℕ, _+_, _*_, _≤_, _<_};
+ghost use lib.ListN.{length};
+ghost use Rattle.kinds.specs.Limits.{mostStops};
+ghost use Rattle.tables.specs.Format.{headerBytes};
+ghost use Rattle.tables.specs.File.{twoAt, countOf, startOf, labelsOf, pivotRead, labelAt, follows, goodLabel};
+ghost use Rattle.tables.specs.Good.{Room};
+
+// Format 1 of the file (specs/Format.antt).
+const MARK: u8 = 1;
+
+const HEADER: usize = 2;
+
+const ENTRY: usize = 4;
+
+const LABEL: usize = 6;
+
+const NO_PIVOT: u8 = 255;
+
+// The labels judged one after the other: none is bad, or the first that is.
+pub enum LabelsRead {
+    AllGood,
+    BadAt(usize),
+}
+
+// The stop count of good tables, or a refusal.
+pub enum TablesRead {
+    Good(u16),
+    No(Refusal),
+}
+
+// Two bytes, low byte first.
+fn two_at(bytes: &[u8], i: usize) -> u16
+    requires { ⌜ i + 1 < length (now bytes) ⌝ }
+    ensures { λ r. ⌜ r ≡ twoAt (now (bytes .entry)) i ⌝ }
+{
+    (bytes[i] as u16) + 256 * (bytes[i + 1] as u16)
+}
+
+fn pivot_read(x: u8) -> u16
+    ensures { λ r. ⌜ r ≡ pivotRead x ⌝ }
+{
+    if x == NO_PIVOT {
+        return Label::NO_PIVOT;
+    }
+    x as u16
+}
+
+// Label k.
+pub fn label_at(bytes: &[u8], n: u16, k: usize) -> Label
+    requires { ⌜ Room (now bytes) n ⌝ }
+    requires { ⌜ k < labelsOf (now bytes) ⌝ }
+    ensures { λ r. ⌜ r ≡ labelAt (now (bytes .entry)) k ⌝ }
+{
+    let at = HEADER + ENTRY * (n as usize) + LABEL * k;
+    Label {
+        hub: bytes[at] as u16,
+        dep: two_at(bytes, at + 1),
+        arr: two_at(bytes, at + 3),
+        pivot: pivot_read(bytes[at + 5]),
+    }
+}
+
+// How many labels a set has. (The sets are numbered: set 2s is the out-labels of stop s, set 2s + 1 its in-labels.)
+fn count_of(bytes: &[u8], set: usize) -> usize
+    requires { ⌜ headerBytes + 2 * set + 2 ≤ length (now bytes) ⌝ }
+    ensures { λ r. ⌜ r ≡ countOf (now (bytes .entry)) set ⌝ }
+{
+    two_at(bytes, HEADER + 2 * set) as usize
+}
+
+// The number of a set's first label. The sum is kept wide: it can pass 33 million before the tables are judged.
+fn start_of(bytes: &[u8], set: usize) -> usize
+    requires { ⌜ set ≤ 2 * mostStops ⌝ }
+    requires { ⌜ headerBytes + 2 * set ≤ length (now bytes) ⌝ }
+    ensures { λ r. ⌜ r ≡ startOf (now (bytes .entry)) set ⌝ }
+{
+    let mut start = 0;
+    let mut j = 0;
+    while j < set {
+        start += count_of(bytes, j);
+        j += 1;
+    }
+    start
+}
+
+fn may_follow(before: Label, l: Label) -> bool
+    ensures { λ r. ⌜ r ≡ follows before l ⌝ }
+{
+    if l.hub < before.hub {
+        return false;
+    }
+    if before.hub < l.hub {
+        return true;
+    }
+    if before.dep < l.dep {
+        return before.arr < l.arr;
+    }
+    false
+}
+
+// Whether label i of its set is good; `before` counts only where it is not the first.
+fn good_label(n: u16, owner: u16, i: usize, before: Label, l: Label) -> bool
+    ensures { λ r. ⌜ r ≡ goodLabel n owner i before l ⌝ }
+{
+    let read = Label::new(n, owner, l.hub, l.dep, l.arr, l.pivot);
+    match read {
+        LabelRead::Bad => {
+            return false;
+        }
+        LabelRead::Good(_) => {}
+    }
+    if i == 0 {
+        return true;
+    }
+    may_follow(before, l)
+}

@@ -1,0 +1,85 @@
+-- Given numbers: "a stop count, a run count and a list of five numbers a run". What they say, and how they are judged.
+use Prim.Native.Nat.{ℕ, zero, suc, _+_, _*_, _≤_, _<_}
+use mathlib.Core.List.{List}
+use mathlib.Core.Bool.{true}
+use lib.ListN.{length, getD}
+use lib.Dec.{leb}
+use Rattle.loops.specs.Unless.{unless}
+use Rattle.kinds.specs.Limits.{mostStops, mostRuns, runNumbers}
+use Rattle.kinds.specs.Refusals.{overLimit, roomShort, refusal}
+use Rattle.kinds.specs.Kinds.{isStopCount, isRunCount, runOf}
+use Rattle.kinds.specs.KindsLaws.{GoodRun}
+use Rattle.kinds.specs.declared.Run.{Run}
+use Rattle.kinds.specs.declared.RunRead.{RunRead}
+use Rattle.kinds.specs.declared.RunRead.the-variants as run
+use Rattle.journeys.specs.Service.{Ride, Service}
+use Rattle.timetable.specs.declared.Judged.{Judged}
+use Rattle.timetable.specs.declared.Judged.the-variants.{Good, No}
+
+-- run i of the list: "run FROM TO DEP ARR TRIP", "numbered from 0"
+abbrev pub runAt : List ℕ → ℕ → Run
+runAt list i =
+    record {
+      from = getD list (runNumbers * i) 0;
+      to = getD list (runNumbers * i + 1) 0;
+      dep = getD list (runNumbers * i + 2) 0;
+      arr = getD list (runNumbers * i + 3) 0;
+      trip = getD list (runNumbers * i + 4) 0;
+    }
+
+-- "its runs at their stated minutes, and nothing else, are in force": slot i is run i
+unfoldable pub serviceOf : ℕ → ℕ → List ℕ → Service
+serviceOf stops count list =
+    record {
+      stops = stops;
+      slots = count;
+      in-force = λ i. true;
+      ride = λ i. record { from = runAt list i .from; to = runAt list i .to; dep = runAt list i .dep; arr = runAt list i .arr };
+    }
+
+-- run i among so many stops, or the number of its refusal. Its values are judged as they are.
+unfoldable pub readRun : ℕ → List ℕ → ℕ → RunRead
+readRun stops list i = let r = runAt list i in runOf stops (r .from) (r .to) (r .dep) (r .arr) (r .trip)
+
+-- "by run 5, 6, 7, the run number as place"
+abbrev pub judgedRun : RunRead → ℕ → Judged
+judgedRun (run.Good r) i = Good
+judgedRun (run.Bad number) i = No (refusal number i)
+
+-- what was refused before stays; else the next is judged
+abbrev pub andThen : Judged → Judged → Judged
+andThen Good next = next
+andThen (No r) next = No r
+
+-- the runs below k, one after the other: the first bad one decides
+unfoldable pub judgedUpTo : ℕ → List ℕ → ℕ → Judged
+judgedUpTo stops list zero = Good
+judgedUpTo stops list (suc k) = andThen (judgedUpTo stops list k) (judgedRun (readRun stops list k) k)
+
+-- "8, then 17, then by run": "Refusal 8 is for a stop count of 0 or over 255 or a run count over 4,096; 17 for a list shorter than the runs
+-- need. Numbers beyond are not read." For working room 17 "stands with the timetable's 17": so much is lent, so much is needed.
+unfoldable pub judgedOf : ℕ → ℕ → List ℕ → ℕ → ℕ → Judged
+judgedOf stops count list lent needed =
+    unless (isStopCount stops) (No (refusal overLimit 0))
+    (unless (isRunCount count) (No (refusal overLimit 0))
+    (unless (leb (runNumbers * count) (length list)) (No (refusal roomShort 0))
+    (unless (leb needed lent) (No (refusal roomShort 0))
+    (judgedUpTo stops list count))))
+
+-- What the judge promises of good numbers: a good run stands at each number below the count, and the list has it.
+abbrev pub RunGood : ℕ → Run → Type 0
+RunGood stops r = GoodRun stops (r .from) (r .to) (r .dep) (r .arr) (r .trip)
+
+pub record GoodNumbers (stops count : ℕ) (list : List ℕ) : Type 0 where
+  pub some : 1 ≤ stops
+  pub few : stops ≤ mostStops
+  pub few-runs : count ≤ mostRuns
+  pub long : runNumbers * count ≤ length list
+  pub runs : (i : ℕ) → i < count → RunGood stops (runAt list i)
+
+-- run i of the list is good, among some number of stops
+pub record GoodRunAt (list : List ℕ) (i : ℕ) : Type 0 where
+  pub stops : ℕ
+  pub few : stops ≤ mostStops
+  pub long : runNumbers * i + runNumbers ≤ length list
+  pub good : RunGood stops (runAt list i)
