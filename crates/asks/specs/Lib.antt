@@ -1,0 +1,4 @@
+pub mod Found
+pub mod FoundLaws
+pub mod Candidates
+pub mod CandidateLaws
