@@ -9,3 +9,5 @@ pub mod EveryLaws
 pub mod Decide
 pub mod Chain
 pub mod Unless
+pub mod FirstOf
+pub mod FirstOfLaws

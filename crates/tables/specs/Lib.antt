@@ -2,3 +2,4 @@ pub mod Format
 pub mod File
 pub mod Good
 pub mod FileLaws
+pub mod JudgeLaws

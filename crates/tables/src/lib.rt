@@ -7,7 +7,8 @@ ghost use Prim.Native.Nat.{ℕ, _+_, _*_, _≤_, _<_};
 ghost use lib.ListN.{length};
 ghost use Rattle.kinds.specs.Limits.{mostStops};
 ghost use Rattle.tables.specs.Format.{headerBytes};
-ghost use Rattle.tables.specs.File.{twoAt, countOf, startOf, labelsOf, pivotRead, labelAt, follows, goodLabel};
+ghost use Rattle.tables.specs.File.{twoAt, countOf, startOf, labelsOf, pivotRead, labelAt, follows, goodLabel, badInSet};
+ghost use Rattle.tables.specs.JudgeLaws.{labelsRead};
 ghost use Rattle.tables.specs.Good.{Room};
 
 // Format 1 of the file (specs/Format.antt).
@@ -118,4 +119,32 @@ fn good_label(n: u16, owner: u16, i: usize, before: Label, l: Label) -> bool
         return true;
     }
     may_follow(before, l)
+}
+
+// The labels of one set, which begins at label `start`: the first that is not good.
+fn judge_set(bytes: &[u8], n: u16, set: usize, start: usize, count: usize) -> LabelsRead
+    requires { ⌜ Room (now bytes) n ⌝ }
+    requires { ⌜ set < 2 * n ⌝ }
+    requires { ⌜ start ≡ startOf (now bytes) set ⌝ }
+    requires { ⌜ count ≡ countOf (now bytes) set ⌝ }
+    requires { ⌜ start + count ≤ labelsOf (now bytes) ⌝ }
+    ensures { λ r. ⌜ r ≡ labelsRead (badInSet (now (bytes .entry)) set) ⌝ }
+{
+    let owner = (set / 2) as u16;
+    let mut before = Label {
+        hub: 0,
+        dep: 0,
+        arr: 0,
+        pivot: 0,
+    };
+    let mut i = 0;
+    while i < count {
+        let l = label_at(bytes, n, start + i);
+        if !good_label(n, owner, i, before, l) {
+            return LabelsRead::BadAt(start + i);
+        }
+        before = l;
+        i += 1;
+    }
+    LabelsRead::AllGood
 }
