@@ -24,10 +24,14 @@ fitsB (Early t) d a = leb t d
 fitsB (Late t) d a = leb a t
 fitsB (Short t t2) d a = cond (leb t d) (leb a t2) false
 
-unfoldable pub betterB : Criterion → ℕ → ℕ → ℕ → ℕ → Bool
-betterB (Early t) d a e b = cond (ltb a b) true (cond (eqb a b) (ltb e d) false)
-betterB (Late t) d a e b = cond (ltb e d) true (cond (eqb d e) (ltb a b) false)
-betterB (Short t t2) d a e b = cond (ltb (a + e) (b + d)) true (cond (eqb (a + e) (b + d)) (ltb d e) false)
+-- x comes before y, or they are the same and the tie is won
+unfoldable pub aheadB : ℕ → ℕ → Bool → Bool
+aheadB x y tie = cond (ltb x y) true (cond (eqb x y) tie false)
+
+abbrev pub betterB : Criterion → ℕ → ℕ → ℕ → ℕ → Bool
+betterB (Early t) d a e b = aheadB a b (ltb e d)
+betterB (Late t) d a e b = aheadB e d (ltb a b)
+betterB (Short t t2) d a e b = aheadB (a + e) (b + d) (ltb d e)
 
 -- one pair more
 abbrev pub pair : ℕ → ℕ → Found

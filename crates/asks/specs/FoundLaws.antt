@@ -1,6 +1,6 @@
 -- Laws of the best pair found so far: one pair more, sets with the same pairs, and sets of which one weakly dominates the other.
 use Prim.Native.Nat.{ℕ, _+_, _≤_, _<_}
-use mathlib.Core.Path.{_≡_, refl, subst₂}
+use mathlib.Core.Path.{_≡_, refl, sym, subst₂}
 use mathlib.Core.Logic.{_⊎_, inl, inr}
 use mathlib.Core.Bool.{Bool, true, false, cond}
 use native.Mathlib.Omega.{arith}
@@ -15,7 +15,7 @@ use Rattle.journeys.specs.PairLaws.{Within}
 use Rattle.asks.specs.declared.Journey.{Journey}
 use Rattle.asks.specs.declared.Found.{Found}
 use Rattle.asks.specs.declared.Found.the-variants as found
-use Rattle.asks.specs.Found.{FoundIn, fitsB, betterB, pair, against, taken}
+use Rattle.asks.specs.Found.{FoundIn, fitsB, aheadB, betterB, pair, against, taken}
 
 -- what the tests say
 fits-true : (c : Criterion) (d a : ℕ) → fitsB c d a ≡ true → Fits c d a
@@ -38,47 +38,36 @@ fits-false (Short t t2) d a e f = go (leb t d) (leb-false t d) e
     go true g q = omega (arith, leb-false a t2 q, f .1)
     go false g q = omega (arith, g refl, f .0)
 
--- a chain "x < y, or x = y and p" as a test
-or-true : (x y : ℕ) (p : Bool) → cond (ltb x y) true (cond (eqb x y) p false) ≡ true → (x < y) ⊎ ((x ≡ y) × (p ≡ true))
-or-true x y p e = go (ltb x y) (eqb x y) (ltb-true x y) (eqb-true x y) e
+pub ahead-true : (x y : ℕ) (tie : Bool) → aheadB x y tie ≡ true → (x < y) ⊎ ((x ≡ y) × (tie ≡ true))
+unfolding aheadB
+ahead-true x y tie e = go (ltb x y) (eqb x y) (ltb-true x y) (eqb-true x y) e
   where
-    go : (b b′ : Bool) → (b ≡ true → x < y) → (b′ ≡ true → x ≡ y) → cond b true (cond b′ p false) ≡ true → (x < y) ⊎ ((x ≡ y) × (p ≡ true))
+    go : (b b′ : Bool) → (b ≡ true → x < y) → (b′ ≡ true → x ≡ y) → cond b true (cond b′ tie false) ≡ true → (x < y) ⊎ ((x ≡ y) × (tie ≡ true))
     go true b′ f g q = inl (f refl)
     go false true f g q = inr (g refl, q)
     go false false f g q = let z : _≡_ {A = ℕ} 0 1 = cc in absurd (omega arith)
 
-or-false : (x y : ℕ) (p : Bool) → cond (ltb x y) true (cond (eqb x y) p false) ≡ false → (y ≤ x) × (x ≡ y → p ≡ false)
-or-false x y p e = go (ltb x y) (eqb x y) (ltb-false x y) (eqb-false x y) e
+pub ahead-false : (x y : ℕ) (tie : Bool) → aheadB x y tie ≡ false → (y ≤ x) × (x ≡ y → tie ≡ false)
+unfolding aheadB
+ahead-false x y tie e = go (ltb x y) (eqb x y) (ltb-false x y) (eqb-false x y) e
   where
-    go : (b b′ : Bool) → (b ≡ false → y ≤ x) → (b′ ≡ false → x ≡ y → ⊥) → cond b true (cond b′ p false) ≡ false → (y ≤ x) × (x ≡ y → p ≡ false)
+    go : (b b′ : Bool) → (b ≡ false → y ≤ x) → (b′ ≡ false → x ≡ y → ⊥) → cond b true (cond b′ tie false) ≡ false → (y ≤ x) × (x ≡ y → tie ≡ false)
     go true b′ f g q = let z : _≡_ {A = ℕ} 0 1 = cc in absurd (omega arith)
     go false true f g q = (f refl, λ _. q)
     go false false f g q = (f refl, λ h. absurd (g refl h))
 
 better-true : (c : Criterion) (d a e b : ℕ) → betterB c d a e b ≡ true → Better c d a e b
-unfolding betterB
-better-true (Early t) d a e b q = elim (or-true a b (ltb e d) q) [ inl x ↦ inl x | inr x ↦ inr (x .0, ltb-true e d (x .1)) ]
-better-true (Late t) d a e b q = go (ltb e d) (eqb d e) (ltb-true e d) (eqb-true d e) q
-  where
-    go : (x y : Bool) → (x ≡ true → e < d) → (y ≡ true → d ≡ e) → cond x true (cond y (ltb a b) false) ≡ true → (e < d) ⊎ ((d ≡ e) × (a < b))
-    go true y f g p = inl (f refl)
-    go false true f g p = inr (g refl, ltb-true a b p)
-    go false false f g p = let z : _≡_ {A = ℕ} 0 1 = cc in absurd (omega arith)
-better-true (Short t t2) d a e b q = elim (or-true (a + e) (b + d) (ltb d e) q) [ inl x ↦ inl x | inr x ↦ inr (x .0, ltb-true d e (x .1)) ]
+better-true (Early t) d a e b q = elim (ahead-true a b (ltb e d) q) [ inl x ↦ inl x | inr x ↦ inr (x .0, ltb-true e d (x .1)) ]
+better-true (Late t) d a e b q = elim (ahead-true e d (ltb a b) q) [ inl x ↦ inl x | inr x ↦ inr (sym (x .0), ltb-true a b (x .1)) ]
+better-true (Short t t2) d a e b q = elim (ahead-true (a + e) (b + d) (ltb d e) q) [ inl x ↦ inl x | inr x ↦ inr (x .0, ltb-true d e (x .1)) ]
 
 better-false : (c : Criterion) (d a e b : ℕ) → betterB c d a e b ≡ false → ¬ (Better c d a e b)
-unfolding betterB
-better-false (Early t) d a e b q (inl h) = omega (arith, or-false a b (ltb e d) q .0)
-better-false (Early t) d a e b q (inr h) = omega (arith, ltb-false e d (or-false a b (ltb e d) q .1 (h .0)))
-better-false (Late t) d a e b q h = go (ltb e d) (eqb d e) (ltb-false e d) (eqb-false d e) q h
-  where
-    go : (x y : Bool) → (x ≡ false → d ≤ e) → (y ≡ false → d ≡ e → ⊥) → cond x true (cond y (ltb a b) false) ≡ false → (e < d) ⊎ ((d ≡ e) × (a < b)) → ⊥
-    go true y f g p k = let z : _≡_ {A = ℕ} 0 1 = cc in omega arith
-    go false y f g p (inl k) = omega (arith, f refl)
-    go false true f g p (inr k) = omega (arith, ltb-false a b p)
-    go false false f g p (inr k) = g refl (k .0)
-better-false (Short t t2) d a e b q (inl h) = omega (arith, or-false (a + e) (b + d) (ltb d e) q .0)
-better-false (Short t t2) d a e b q (inr h) = omega (arith, ltb-false d e (or-false (a + e) (b + d) (ltb d e) q .1 (h .0)))
+better-false (Early t) d a e b q (inl h) = omega (arith, ahead-false a b (ltb e d) q .0)
+better-false (Early t) d a e b q (inr h) = omega (arith, ltb-false e d (ahead-false a b (ltb e d) q .1 (h .0)))
+better-false (Late t) d a e b q (inl h) = omega (arith, ahead-false e d (ltb a b) q .0)
+better-false (Late t) d a e b q (inr h) = omega (arith, ltb-false a b (ahead-false e d (ltb a b) q .1 (sym (h .0))))
+better-false (Short t t2) d a e b q (inl h) = omega (arith, ahead-false (a + e) (b + d) (ltb d e) q .0)
+better-false (Short t t2) d a e b q (inr h) = omega (arith, ltb-false d e (ahead-false (a + e) (b + d) (ltb d e) q .1 (h .0)))
 
 -- the set with one pair more
 abbrev pub Plus : (ℕ → ℕ → Type 0) → ℕ → ℕ → ℕ → ℕ → Type 0

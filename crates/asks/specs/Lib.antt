@@ -2,3 +2,5 @@ pub mod Found
 pub mod FoundLaws
 pub mod Candidates
 pub mod CandidateLaws
+pub mod Join
+pub mod JoinLaws

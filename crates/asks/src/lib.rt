@@ -1,6 +1,18 @@
-// Early, late and short over a tables file.
+// Early, late and short over a tables file: one join serves the three.
 use journeys::Criterion;
+use kinds::Label;
 use kinds::Refusal;
+ghost use mathlib.Core.Path.{_≡_};
+ghost use Prim.Native.Nat.{ℕ, _+_, _≤_, _<_};
+ghost use lib.ListN.{length};
+ghost use Rattle.loops.specs.First.{FirstAt};
+ghost use Rattle.kinds.specs.Limits.{lastMinute};
+ghost use Rattle.journeys.specs.Tables.{Tables, outs, ins, Sketch};
+ghost use Rattle.tables.specs.File.{tablesOf, labelsOf, labelAt};
+ghost use Rattle.tables.specs.Good.{Room};
+ghost use Rattle.asks.specs.Found.{FoundIn, fitsB, aheadB, betterB, against, taken};
+ghost use Rattle.asks.specs.Candidates.{Past, FromOuts, Candidate, Behind};
+ghost use Rattle.asks.specs.Join.{Sets, pastB};
 
 // A journey by its time pair.
 pub struct Journey {
@@ -18,4 +30,101 @@ pub enum Answer {
 pub enum Found {
     Pair(Journey),
     Nothing,
+}
+
+// What the out-labels gave, and where among the in-labels the search for partners stands.
+struct Joined {
+    best: Found,
+    next: usize,
+}
+
+fn fits(c: Criterion, d: u16, a: u16) -> bool
+    ensures { λ r. ⌜ r ≡ fitsB c d a ⌝ }
+{
+    match c {
+        Criterion::Early(t) => t <= d,
+        Criterion::Late(t) => a <= t,
+        Criterion::Short(t, t2) => {
+            if t <= d {
+                return a <= t2;
+            }
+            false
+        }
+    }
+}
+
+// Whether x comes before y, or they are the same and the tie is won.
+fn ahead(x: u32, y: u32, tie: bool) -> bool
+    ensures { λ r. ⌜ r ≡ aheadB x y tie ⌝ }
+{
+    if x < y {
+        return true;
+    }
+    if x == y {
+        return tie;
+    }
+    false
+}
+
+// Whether (d, a) is better than (e, b).
+fn better(c: Criterion, d: u16, a: u16, e: u16, b: u16) -> bool
+    ensures { λ r. ⌜ r ≡ betterB c d a e b ⌝ }
+{
+    match c {
+        Criterion::Early(_) => ahead(a as u32, b as u32, e < d),
+        Criterion::Late(_) => ahead(e as u32, d as u32, a < b),
+        Criterion::Short(_, _) => ahead(
+            (a as u32) + (e as u32),
+            (b as u32) + (d as u32),
+            d < e,
+        ),
+    }
+}
+
+// The better of a pair that fits and what was found.
+fn rival(c: Criterion, d: u16, a: u16, best: Found) -> Found
+    ensures { λ r. ⌜ r ≡ against c d a best ⌝ }
+{
+    match best {
+        Found::Pair(j) => {
+            if better(c, d, a, j.dep, j.arr) {
+                return Found::Pair(Journey { dep: d, arr: a });
+            }
+            Found::Pair(j)
+        }
+        Found::Nothing => Found::Pair(Journey { dep: d, arr: a }),
+    }
+}
+
+// One pair more.
+fn take(c: Criterion, d: u16, a: u16, best: Found) -> Found
+    ensures { λ r. ⌜ r ≡ taken c d a best ⌝ }
+{
+    if fits(c, d, a) {
+        return rival(c, d, a, best);
+    }
+    best
+}
+
+fn is_past(l: Label, hub: u16, minute: u16) -> bool
+    ensures { λ r. ⌜ r ≡ pastB l hub minute ⌝ }
+{
+    ahead(hub as u32, l.hub as u32, minute <= l.dep)
+}
+
+// The first label from `from` on, below `to`, with this hub that leaves at or after this minute; or where it would stand.
+fn partner(tables: &[u8], n: u16, from: usize, to: usize, hub: u16, minute: u16) -> usize
+    requires { ⌜ Room (now tables) n ⌝ }
+    requires { ⌜ (from ≤ to) × (to ≤ labelsOf (now tables)) ⌝ }
+    ensures { λ r. ⌜ FirstAt (Past (tablesOf (now (tables .entry))) hub minute) from to r ⌝ }
+{
+    let mut k = from;
+    while k < to {
+        let l = tables::label_at(tables, n, k);
+        if is_past(l, hub, minute) {
+            return k;
+        }
+        k += 1;
+    }
+    k
 }
