@@ -12,7 +12,7 @@ ghost use Rattle.tables.specs.File.{tablesOf, labelsOf, labelAt};
 ghost use Rattle.tables.specs.Good.{Room};
 ghost use Rattle.asks.specs.Found.{FoundIn, fitsB, aheadB, betterB, against, taken};
 ghost use Rattle.asks.specs.Candidates.{Past, FromOuts, Candidate, Behind};
-ghost use Rattle.asks.specs.Join.{Sets, pastB};
+ghost use Rattle.asks.specs.Join.{Sets, pastB, OutTurn, OutsTo, InsTo, inTurn};
 
 // A journey by its time pair.
 pub struct Journey {
@@ -73,11 +73,7 @@ fn better(c: Criterion, d: u16, a: u16, e: u16, b: u16) -> bool
     match c {
         Criterion::Early(_) => ahead(a as u32, b as u32, e < d),
         Criterion::Late(_) => ahead(e as u32, d as u32, a < b),
-        Criterion::Short(_, _) => ahead(
-            (a as u32) + (e as u32),
-            (b as u32) + (d as u32),
-            d < e,
-        ),
+        Criterion::Short(_, _) => ahead((a as u32) + (e as u32), (b as u32) + (d as u32), d < e),
     }
 }
 
@@ -127,4 +123,100 @@ fn partner(tables: &[u8], n: u16, from: usize, to: usize, hub: u16, minute: u16)
         k += 1;
     }
     k
+}
+
+// What out-label k, read as l, gives: its own pair where its hub is v, else with its partner's arrival.
+fn out_turn(
+    tables: &[u8],
+    n: u16,
+    c: Criterion,
+    u: u16,
+    v: u16,
+    in_to: usize,
+    k: usize,
+    l: Label,
+    m: usize,
+    best: Found,
+) -> Found
+    requires { ⌜ ((outFrom outTo inFrom : ℕ) × Sets (now tables) n u v outFrom outTo inFrom «in_to» × OutTurn (now tables) u v outTo inFrom «in_to» k l m) ⌝ }
+    requires { ⌜ FoundIn (FromOuts (tablesOf (now tables)) u v k) c best ⌝ }
+    ensures { λ r. ⌜ FoundIn (FromOuts (tablesOf (now (tables .entry))) u v (k + 1)) c r ⌝ }
+{
+    if l.hub == v {
+        return take(c, l.dep, l.arr, best);
+    }
+    if in_to <= m {
+        return best;
+    }
+    let p = tables::label_at(tables, n, m);
+    if p.hub == l.hub {
+        return take(c, l.dep, p.arr, best);
+    }
+    best
+}
+
+// The out-labels of u in order; the place of the partners only moves forward.
+fn over_outs(
+    tables: &[u8],
+    n: u16,
+    c: Criterion,
+    u: u16,
+    v: u16,
+    out_from: usize,
+    out_to: usize,
+    in_from: usize,
+    in_to: usize,
+) -> Joined
+    requires { ⌜ Sets (now tables) n u v «out_from» «out_to» «in_from» «in_to» ⌝ }
+    ensures { λ r. ⌜ OutsTo (now (tables .entry)) u v c «out_from» «out_to» «in_to» (r .best) (r .next) «out_to» ⌝ }
+{
+    let mut best = Found::Nothing;
+    let mut next = in_from;
+    let mut k = out_from;
+    while k < out_to {
+        let l = tables::label_at(tables, n, k);
+        let m = partner(tables, n, next, in_to, l.hub, l.arr);
+        best = out_turn(tables, n, c, u, v, in_to, k, l, m, best);
+        next = m;
+        k += 1;
+    }
+    Joined { best, next }
+}
+
+// What in-label l gives: its own pair where its hub is u.
+fn in_turn(c: Criterion, u: u16, l: Label, best: Found) -> Found
+    ensures { λ r. ⌜ r ≡ inTurn c u l best ⌝ }
+{
+    if l.hub == u {
+        return take(c, l.dep, l.arr, best);
+    }
+    best
+}
+
+// The in-labels of v from the place of the partners on, until their hubs are past u. All are looked at, whatever the out-labels gave.
+fn over_ins(
+    tables: &[u8],
+    n: u16,
+    c: Criterion,
+    u: u16,
+    v: u16,
+    from: usize,
+    in_to: usize,
+    best: Found,
+) -> Found
+    requires { ⌜ ((outFrom outTo inFrom : ℕ) × Sets (now tables) n u v outFrom outTo inFrom «in_to») ⌝ }
+    requires { ⌜ InsTo (now tables) u v c «in_to» best from ⌝ }
+    ensures { λ r. ⌜ InsTo (now (tables .entry)) u v c «in_to» r «in_to» ⌝ }
+{
+    let mut found = best;
+    let mut k = from;
+    while k < in_to {
+        let l = tables::label_at(tables, n, k);
+        if u < l.hub {
+            return found;
+        }
+        found = in_turn(c, u, l, found);
+        k += 1;
+    }
+    found
 }
