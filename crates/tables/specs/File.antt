@@ -108,15 +108,19 @@ abbrev pub judgedBy : Option ℕ → ℕ → TablesRead
 judgedBy none n = Good n
 judgedBy (some k) n = No (refusal labelBad k)
 
--- 9: "shorter than 2 bytes, byte 0 not 1, or n = 0" (a byte is a stop count unless it is 0); 10: "contents cut short, over 8,192 labels, or
--- length differs"; 11: "label not good", with the first such label as place
-unfoldable pub judgedTables : List ℕ → TablesRead
-judgedTables b =
+-- 10: "contents cut short, over 8,192 labels, or length differs"; 11: "label not good", and the first such label is the place
+unfoldable pub judgedContents : List ℕ → TablesRead
+judgedContents b =
     let n = stopsOf b in
-    unless (leb headerBytes (length b)) (No (refusal noTables 0))
-    (unless (eqb (getD b 0 0) formatMark) (No (refusal noTables 0))
-    (unless (isStopCount n) (No (refusal noTables 0))
-    (unless (leb (placeOf n 0) (length b)) (No (refusal tablesLength 0))
+    unless (leb (headerBytes + entryBytes * n) (length b)) (No (refusal tablesLength 0))
     (unless (leb (labelsOf b) mostLabels) (No (refusal tablesLength 0))
     (unless (eqb (length b) (placeOf n (labelsOf b))) (No (refusal tablesLength 0))
-    (judgedBy (firstBad b) n))))))
+    (judgedBy (firstBad b) n)))
+
+-- 9: "shorter than 2 bytes, byte 0 not 1, or n = 0" (a byte is a stop count unless it is 0)
+unfoldable pub judgedTables : List ℕ → TablesRead
+judgedTables b =
+    unless (leb headerBytes (length b)) (No (refusal noTables 0))
+    (unless (eqb (getD b 0 0) formatMark) (No (refusal noTables 0))
+    (unless (isStopCount (stopsOf b)) (No (refusal noTables 0))
+    (judgedContents b)))
