@@ -15,6 +15,7 @@ use Rattle.kinds.specs.declared.LabelRead.{LabelRead}
 use Rattle.kinds.specs.declared.LabelRead.the-variants as label
 use Rattle.journeys.specs.Tables.{Side, outs, ins, Tables}
 use Rattle.tables.specs.Format.{formatMark, headerBytes, entryBytes, labelBytes, noPivotByte}
+use Rattle.tables.specs.declared.Bounds.{Bounds}
 use Rattle.tables.specs.declared.TablesRead.{TablesRead}
 use Rattle.tables.specs.declared.TablesRead.the-variants.{Good, No}
 
@@ -75,6 +76,9 @@ tablesOf b =
       arr = λ k. labelAt b k .arr;
       pivot = λ k. pivotOf (labelAt b k .pivot);
     }
+
+abbrev pub boundsOf : Tables → Side → ℕ → Bounds
+boundsOf T side s = record { start = T .start side s; end = T .end side s }
 
 -- "Within one set hubs never fall, and for one hub departures and arrivals both strictly rise": label l may come after label m
 unfoldable pub follows : Label → Label → Bool

@@ -7,8 +7,9 @@ ghost use mathlib.Core.Path.{_≡_};
 ghost use Prim.Native.Nat.{ℕ, _+_, _*_, _≤_, _<_};
 ghost use lib.ListN.{length};
 ghost use Rattle.kinds.specs.Limits.{mostStops, mostLabels};
+ghost use Rattle.journeys.specs.Tables.{outs, ins};
 ghost use Rattle.tables.specs.Format.{headerBytes};
-ghost use Rattle.tables.specs.File.{twoAt, stopsOf, countOf, startOf, labelsOf, placeOf, pivotRead, labelAt, follows, goodLabel, badInSet, firstBad, judgedContents, judgedTables};
+ghost use Rattle.tables.specs.File.{twoAt, stopsOf, countOf, startOf, endOf, labelsOf, placeOf, pivotRead, labelAt, tablesOf, boundsOf, follows, goodLabel, badInSet, firstBad, judgedContents, judgedTables};
 ghost use Rattle.tables.specs.JudgeLaws.{labelsRead};
 ghost use Rattle.tables.specs.Good.{Contents, Room};
 
@@ -27,6 +28,12 @@ const NO_PIVOT: u8 = 255;
 pub enum LabelsRead {
     AllGood,
     BadAt(u32),
+}
+
+// The labels of a set are those from `start` up to, not including, `end`.
+pub struct Bounds {
+    pub start: usize,
+    pub end: usize,
 }
 
 // The stop count of good tables, or a refusal.
@@ -111,6 +118,37 @@ pub fn label_count(bytes: &[u8], n: u16) -> usize
     ensures { λ r. ⌜ r ≡ labelsOf (now (bytes .entry)) ⌝ }
 {
     start_of(bytes, 2 * (n as usize))
+}
+
+fn bounds_of(bytes: &[u8], set: usize) -> Bounds
+    requires { ⌜ set < 2 * mostStops ⌝ }
+    requires { ⌜ headerBytes + 2 * set + 2 ≤ length (now bytes) ⌝ }
+    requires { ⌜ endOf (now bytes) set ≤ mostLabels ⌝ }
+    ensures { λ r. ⌜ r ≡ record { start = startOf (now (bytes .entry)) set; end = endOf (now (bytes .entry)) set } ⌝ }
+{
+    let start = start_of(bytes, set);
+    Bounds {
+        start,
+        end: start + count_of(bytes, set),
+    }
+}
+
+// The out-labels of stop s.
+pub fn outs_of(bytes: &[u8], n: u16, s: u16) -> Bounds
+    requires { ⌜ Room (now bytes) n ⌝ }
+    requires { ⌜ s < n ⌝ }
+    ensures { λ r. ⌜ r ≡ boundsOf (tablesOf (now (bytes .entry))) outs s ⌝ }
+{
+    bounds_of(bytes, 2 * (s as usize))
+}
+
+// The in-labels of stop s.
+pub fn ins_of(bytes: &[u8], n: u16, s: u16) -> Bounds
+    requires { ⌜ Room (now bytes) n ⌝ }
+    requires { ⌜ s < n ⌝ }
+    ensures { λ r. ⌜ r ≡ boundsOf (tablesOf (now (bytes .entry))) ins s ⌝ }
+{
+    bounds_of(bytes, 2 * (s as usize) + 1)
 }
 
 fn may_follow(before: Label, l: Label) -> bool
