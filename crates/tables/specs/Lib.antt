@@ -3,3 +3,4 @@ pub mod File
 pub mod Good
 pub mod FileLaws
 pub mod JudgeLaws
+pub mod GoodLaws
