@@ -102,7 +102,7 @@ module _ (b : List ℕ) (set i : ℕ) where
   unfolding badLabel
   entry-good e =
       let t = stays (goodLabel (stopsOf b) (ownerOf set) i (labelAt b (startOf b set + i - 1)) (labelAt b (startOf b set + i))) e
-          (λ x. let y : _≡_ {A = ℕ} 0 1 = cc in omega arith) in
+      (λ x. let y : _≡_ {A = ℕ} 0 1 = cc in omega arith) in
       let z = good-says (stopsOf b) (ownerOf set) i _ _ (t .0) in
       record { alone = z .0; after = z .1 }
 
@@ -137,7 +137,7 @@ judged-good b n e =
         exact = eqb-true _ _ (z₆ .0);
       };
       labels = λ set i lt h.
-        entry-good b set i (first-of-clear (badLabel b set) (countOf b set) i (first-of-clear (badInSet b) (2 * stopsOf b) set (z₇ .0) lt) h);
+          entry-good b set i (first-of-clear (badLabel b set) (countOf b set) i (first-of-clear (badInSet b) (2 * stopsOf b) set (z₇ .0) lt) h);
     })
 
 good-judged-own : (b : List ℕ) → GoodFile b (stopsOf b) → judgedTables b ≡ Good (stopsOf b)

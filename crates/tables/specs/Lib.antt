@@ -4,3 +4,5 @@ pub mod Good
 pub mod FileLaws
 pub mod JudgeLaws
 pub mod GoodLaws
+pub mod TablesLaws
+pub mod RefusalLaws
