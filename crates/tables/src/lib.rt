@@ -6,6 +6,7 @@ use kinds::Stop;
 ghost use mathlib.Core.Path.{_≡_};
 ghost use Prim.Native.Nat.{ℕ, _+_, _*_, _≤_, _<_};
 ghost use lib.ListN.{length};
+ghost use Rattle.loops.specs.Filled.{filled};
 ghost use Rattle.kinds.specs.Limits.{mostStops, mostLabels};
 ghost use Rattle.journeys.specs.Tables.{outs, ins};
 ghost use Rattle.tables.specs.Format.{headerBytes};
@@ -272,4 +273,21 @@ pub fn judge(bytes: &[u8]) -> TablesRead
         return TablesRead::No(Refusal::new(Refusal::NO_TABLES, 0));
     }
     judge_contents(bytes, n)
+}
+
+// The starts of all sets in their order, and behind them the number of labels: 2n + 1 numbers, for those who look many sets up.
+pub fn starts(bytes: &[u8], n: u16, room: &mut [u16])
+    requires { ⌜ Room (now bytes) n ⌝ }
+    requires { ⌜ 2 * n + 1 ≤ length (now room) ⌝ }
+    ensures { λ _. ⌜ now (room .exit) ≡ filled (startOf (now (bytes .entry))) (2 * n + 1) (now (room .entry)) ⌝ }
+{
+    let sets = 2 * (n as usize);
+    let mut start = 0;
+    let mut set = 0;
+    while set < sets {
+        room[set] = start as u16;
+        start += count_of(bytes, set);
+        set += 1;
+    }
+    room[sets] = start as u16;
 }
