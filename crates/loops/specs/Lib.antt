@@ -11,3 +11,5 @@ pub mod Chain
 pub mod Unless
 pub mod FirstOf
 pub mod FirstOfLaws
+pub mod Filled
+pub mod FilledLaws

@@ -15,6 +15,7 @@ use Rattle.kinds.specs.declared.LabelRead.{LabelRead}
 use Rattle.kinds.specs.declared.LabelRead.the-variants as label
 use Rattle.journeys.specs.Tables.{Side, outs, ins, Tables}
 use Rattle.tables.specs.Format.{formatMark, headerBytes, entryBytes, labelBytes, noPivotByte}
+use Rattle.tables.specs.declared.Bounds.{Bounds}
 use Rattle.tables.specs.declared.TablesRead.{TablesRead}
 use Rattle.tables.specs.declared.TablesRead.the-variants.{Good, No}
 
@@ -76,6 +77,9 @@ tablesOf b =
       pivot = λ k. pivotOf (labelAt b k .pivot);
     }
 
+abbrev pub boundsOf : Tables → Side → ℕ → Bounds
+boundsOf T side s = record { start = T .start side s; end = T .end side s }
+
 -- "Within one set hubs never fall, and for one hub departures and arrivals both strictly rise": label l may come after label m
 unfoldable pub follows : Label → Label → Bool
 follows m l =
@@ -108,15 +112,19 @@ abbrev pub judgedBy : Option ℕ → ℕ → TablesRead
 judgedBy none n = Good n
 judgedBy (some k) n = No (refusal labelBad k)
 
--- 9: "shorter than 2 bytes, byte 0 not 1, or n = 0" (a byte is a stop count unless it is 0); 10: "contents cut short, over 8,192 labels, or
--- length differs"; 11: "label not good", with the first such label as place
-unfoldable pub judgedTables : List ℕ → TablesRead
-judgedTables b =
+-- 10: "contents cut short, over 8,192 labels, or length differs"; 11: "label not good", and the first such label is the place
+unfoldable pub judgedContents : List ℕ → TablesRead
+judgedContents b =
     let n = stopsOf b in
-    unless (leb headerBytes (length b)) (No (refusal noTables 0))
-    (unless (eqb (getD b 0 0) formatMark) (No (refusal noTables 0))
-    (unless (isStopCount n) (No (refusal noTables 0))
-    (unless (leb (placeOf n 0) (length b)) (No (refusal tablesLength 0))
+    unless (leb (headerBytes + entryBytes * n) (length b)) (No (refusal tablesLength 0))
     (unless (leb (labelsOf b) mostLabels) (No (refusal tablesLength 0))
     (unless (eqb (length b) (placeOf n (labelsOf b))) (No (refusal tablesLength 0))
-    (judgedBy (firstBad b) n))))))
+    (judgedBy (firstBad b) n)))
+
+-- 9: "shorter than 2 bytes, byte 0 not 1, or n = 0" (a byte is a stop count unless it is 0)
+unfoldable pub judgedTables : List ℕ → TablesRead
+judgedTables b =
+    unless (leb headerBytes (length b)) (No (refusal noTables 0))
+    (unless (eqb (getD b 0 0) formatMark) (No (refusal noTables 0))
+    (unless (isStopCount (stopsOf b)) (No (refusal noTables 0))
+    (judgedContents b)))

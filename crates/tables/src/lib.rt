@@ -2,14 +2,17 @@
 use kinds::Label;
 use kinds::LabelRead;
 use kinds::Refusal;
+use kinds::Stop;
 ghost use mathlib.Core.Path.{_≡_};
 ghost use Prim.Native.Nat.{ℕ, _+_, _*_, _≤_, _<_};
 ghost use lib.ListN.{length};
-ghost use Rattle.kinds.specs.Limits.{mostStops};
+ghost use Rattle.loops.specs.Filled.{filled};
+ghost use Rattle.kinds.specs.Limits.{mostStops, mostLabels};
+ghost use Rattle.journeys.specs.Tables.{outs, ins};
 ghost use Rattle.tables.specs.Format.{headerBytes};
-ghost use Rattle.tables.specs.File.{twoAt, countOf, startOf, labelsOf, pivotRead, labelAt, follows, goodLabel, badInSet};
+ghost use Rattle.tables.specs.File.{twoAt, stopsOf, countOf, startOf, endOf, labelsOf, placeOf, pivotRead, labelAt, tablesOf, boundsOf, follows, goodLabel, badInSet, firstBad, judgedContents, judgedTables};
 ghost use Rattle.tables.specs.JudgeLaws.{labelsRead};
-ghost use Rattle.tables.specs.Good.{Room};
+ghost use Rattle.tables.specs.Good.{Contents, Room};
 
 // Format 1 of the file (specs/Format.antt).
 const MARK: u8 = 1;
@@ -25,7 +28,13 @@ const NO_PIVOT: u8 = 255;
 // The labels judged one after the other: none is bad, or the first that is.
 pub enum LabelsRead {
     AllGood,
-    BadAt(usize),
+    BadAt(u32),
+}
+
+// The labels of a set are those from `start` up to, not including, `end`.
+pub struct Bounds {
+    pub start: usize,
+    pub end: usize,
 }
 
 // The stop count of good tables, or a refusal.
@@ -51,13 +60,28 @@ fn pivot_read(x: u8) -> u16
     x as u16
 }
 
+fn stop_count(bytes: &[u8]) -> u16
+    requires { ⌜ headerBytes ≤ length (now bytes) ⌝ }
+    ensures { λ r. ⌜ r ≡ stopsOf (now (bytes .entry)) ⌝ }
+{
+    bytes[1] as u16
+}
+
+// How many bytes a file of n stops and so many labels has; label k begins where a file of k labels would end.
+pub fn file_length(n: u16, labels: usize) -> usize
+    requires { ⌜ labels ≤ mostLabels ⌝ }
+    ensures { λ r. ⌜ r ≡ placeOf n labels ⌝ }
+{
+    HEADER + ENTRY * (n as usize) + LABEL * labels
+}
+
 // Label k.
 pub fn label_at(bytes: &[u8], n: u16, k: usize) -> Label
     requires { ⌜ Room (now bytes) n ⌝ }
     requires { ⌜ k < labelsOf (now bytes) ⌝ }
     ensures { λ r. ⌜ r ≡ labelAt (now (bytes .entry)) k ⌝ }
 {
-    let at = HEADER + ENTRY * (n as usize) + LABEL * k;
+    let at = file_length(n, k);
     Label {
         hub: bytes[at] as u16,
         dep: two_at(bytes, at + 1),
@@ -87,6 +111,45 @@ fn start_of(bytes: &[u8], set: usize) -> usize
         j += 1;
     }
     start
+}
+
+// How many labels there are in all.
+pub fn label_count(bytes: &[u8], n: u16) -> usize
+    requires { ⌜ Contents (now bytes) n ⌝ }
+    ensures { λ r. ⌜ r ≡ labelsOf (now (bytes .entry)) ⌝ }
+{
+    start_of(bytes, 2 * (n as usize))
+}
+
+fn bounds_of(bytes: &[u8], set: usize) -> Bounds
+    requires { ⌜ set < 2 * mostStops ⌝ }
+    requires { ⌜ headerBytes + 2 * set + 2 ≤ length (now bytes) ⌝ }
+    requires { ⌜ endOf (now bytes) set ≤ mostLabels ⌝ }
+    ensures { λ r. ⌜ r ≡ record { start = startOf (now (bytes .entry)) set; end = endOf (now (bytes .entry)) set } ⌝ }
+{
+    let start = start_of(bytes, set);
+    Bounds {
+        start,
+        end: start + count_of(bytes, set),
+    }
+}
+
+// The out-labels of stop s.
+pub fn outs_of(bytes: &[u8], n: u16, s: u16) -> Bounds
+    requires { ⌜ Room (now bytes) n ⌝ }
+    requires { ⌜ s < n ⌝ }
+    ensures { λ r. ⌜ r ≡ boundsOf (tablesOf (now (bytes .entry))) outs s ⌝ }
+{
+    bounds_of(bytes, 2 * (s as usize))
+}
+
+// The in-labels of stop s.
+pub fn ins_of(bytes: &[u8], n: u16, s: u16) -> Bounds
+    requires { ⌜ Room (now bytes) n ⌝ }
+    requires { ⌜ s < n ⌝ }
+    ensures { λ r. ⌜ r ≡ boundsOf (tablesOf (now (bytes .entry))) ins s ⌝ }
+{
+    bounds_of(bytes, 2 * (s as usize) + 1)
 }
 
 fn may_follow(before: Label, l: Label) -> bool
@@ -141,10 +204,90 @@ fn judge_set(bytes: &[u8], n: u16, set: usize, start: usize, count: usize) -> La
     while i < count {
         let l = label_at(bytes, n, start + i);
         if !good_label(n, owner, i, before, l) {
-            return LabelsRead::BadAt(start + i);
+            return LabelsRead::BadAt((start + i) as u32);
         }
         before = l;
         i += 1;
     }
     LabelsRead::AllGood
+}
+
+// All sets in their order.
+fn judge_sets(bytes: &[u8], n: u16) -> LabelsRead
+    requires { ⌜ Room (now bytes) n ⌝ }
+    ensures { λ r. ⌜ r ≡ labelsRead (firstBad (now (bytes .entry))) ⌝ }
+{
+    let sets = 2 * (n as usize);
+    let mut start = 0;
+    let mut set = 0;
+    while set < sets {
+        let count = count_of(bytes, set);
+        let read = judge_set(bytes, n, set, start, count);
+        match read {
+            LabelsRead::BadAt(k) => {
+                return LabelsRead::BadAt(k);
+            }
+            LabelsRead::AllGood => {}
+        }
+        start += count;
+        set += 1;
+    }
+    LabelsRead::AllGood
+}
+
+// Behind the header: 10 and 11 in this order, or the stop count.
+fn judge_contents(bytes: &[u8], n: u16) -> TablesRead
+    requires { ⌜ stopsOf (now bytes) ≡ n ⌝ }
+    requires { ⌜ n ≤ mostStops ⌝ }
+    ensures { λ r. ⌜ r ≡ judgedContents (now (bytes .entry)) ⌝ }
+{
+    if bytes.len() < HEADER + ENTRY * (n as usize) {
+        return TablesRead::No(Refusal::new(Refusal::TABLES_LENGTH, 0));
+    }
+    let labels = label_count(bytes, n);
+    if Label::MOST < labels {
+        return TablesRead::No(Refusal::new(Refusal::TABLES_LENGTH, 0));
+    }
+    if bytes.len() != file_length(n, labels) {
+        return TablesRead::No(Refusal::new(Refusal::TABLES_LENGTH, 0));
+    }
+    let read = judge_sets(bytes, n);
+    match read {
+        LabelsRead::AllGood => TablesRead::Good(n),
+        LabelsRead::BadAt(k) => TablesRead::No(Refusal::new(Refusal::LABEL_BAD, k)),
+    }
+}
+
+// Bytes from anywhere: 9, 10 and 11 in this order, or the stop count.
+pub fn judge(bytes: &[u8]) -> TablesRead
+    ensures { λ r. ⌜ r ≡ judgedTables (now (bytes .entry)) ⌝ }
+{
+    if bytes.len() < HEADER {
+        return TablesRead::No(Refusal::new(Refusal::NO_TABLES, 0));
+    }
+    if bytes[0] != MARK {
+        return TablesRead::No(Refusal::new(Refusal::NO_TABLES, 0));
+    }
+    let n = stop_count(bytes);
+    if !Stop::is_count(n as u32) {
+        return TablesRead::No(Refusal::new(Refusal::NO_TABLES, 0));
+    }
+    judge_contents(bytes, n)
+}
+
+// The starts of all sets in their order, and behind them the number of labels: 2n + 1 numbers, for those who look many sets up.
+pub fn starts(bytes: &[u8], n: u16, room: &mut [u16])
+    requires { ⌜ Room (now bytes) n ⌝ }
+    requires { ⌜ 2 * n + 1 ≤ length (now room) ⌝ }
+    ensures { λ _. ⌜ now (room .exit) ≡ filled (startOf (now (bytes .entry))) (2 * n + 1) (now (room .entry)) ⌝ }
+{
+    let sets = 2 * (n as usize);
+    let mut start = 0;
+    let mut set = 0;
+    while set < sets {
+        room[set] = start as u16;
+        start += count_of(bytes, set);
+        set += 1;
+    }
+    room[sets] = start as u16;
 }

@@ -37,13 +37,16 @@ good-label-requires c κs = search needs
 add-t14 : tie.Need-add-t14 Inv-loop μ-loop
 add-t14 c = search needs
 
+cast-t15 : tie.Need-cast-t15 Inv-loop μ-loop
+cast-t15 c = search needs
+
 returns : tie.Need-returns Inv-loop μ-loop
 returns c =
     let read = c .before .before in
     let at = read .before .before in
     let s = at .before .before in
     let p = s .pre in
-    let e = passed-bad (at .loop .inv .1) (p .0 .stops) (p .1 .1 .0) (read .label-at .ensures) (c .before .good-label .ensures) (s .args .count) (search needs) (not-true _ (c .if1 .taken)) in
+    let e = passed-bad (at .loop .inv .1) (p .0 .contents .stops) (p .1 .1 .0) (read .label-at .ensures) (c .before .good-label .ensures) (s .args .count) (search needs) (not-true _ (c .if1 .taken)) in
     sym (ap labelsRead (ap (firstOf _) (sym (p .1 .1 .1 .0)) ∙ e))
 
 add-i : tie.Need-add-i Inv-loop μ-loop
@@ -57,7 +60,7 @@ loop-again c =
     let read = c .before .before in
     let at = read .before .before in
     let p = at .before .before .pre in
-    (search needs, passed-more (at .loop .inv .1) (p .0 .stops) (p .1 .1 .0) (read .label-at .ensures) (c .before .good-label .ensures) (not-false _ (c .if1 .left)))
+    (search needs, passed-more (at .loop .inv .1) (p .0 .contents .stops) (p .1 .1 .0) (read .label-at .ensures) (c .before .good-label .ensures) (not-false _ (c .if1 .left)))
 
 returns-2 : tie.Need-returns-2 Inv-loop μ-loop
 returns-2 c =
@@ -78,6 +81,7 @@ judge-set-spec =
     label-at-requires
     good-label-requires
     add-t14
+    cast-t15
     returns
     add-i
     loop-less
