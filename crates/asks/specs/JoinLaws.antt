@@ -9,7 +9,10 @@ use native.Mathlib.Nat.{le-refl}
 use lib.Dec.{leb, eqb}
 use borrow.Author.Tests.{leb-true, leb-false, eqb-true, eqb-false}
 use Rattle.kinds.specs.declared.Label.{Label}
-use Rattle.tables.specs.File.{tablesOf, labelAt}
+use Rattle.tables.specs.declared.Bounds.{Bounds}
+use Rattle.tables.specs.File.{tablesOf, labelAt, boundsOf}
+use Rattle.tables.specs.Good.{GoodFile}
+use Rattle.tables.specs.TablesLaws.{tables-stops, tables-start, tables-end, tables-within, good-tables}
 use Rattle.asks.specs.FoundLaws.{ahead-true, ahead-false}
 use Rattle.journeys.specs.declared.Criterion.{Criterion}
 use Rattle.journeys.specs.Tables.{Tables, outs, ins, Sketch}
@@ -135,3 +138,24 @@ module _ {b : List ℕ} {n u v outFrom outTo inFrom inTo : ℕ} (S : Sets b n u 
   -- and that is the best sketch
   pub ins-found : {best : Found} → InsTo b u v c inTo best inTo → FoundIn (Sketch (tablesOf b) u v) c best
   ins-found {best} I = found-sketch (S .good) (S .from-stop) (S .to-stop) c best (rw (S .in-end) (I .found))
+
+-- the bounds of the two sets, as they are read
+pub sets-of : {b : List ℕ} {n u v : ℕ} {o i : Bounds} → GoodFile b n → u < n → v < n → o ≡ boundsOf (tablesOf b) outs u → i ≡ boundsOf (tablesOf b) ins v →
+    Sets b n u v (o .start) (o .end) (i .start) (i .end)
+sets-of {b} {n} {u} {v} G hu hv eo ei =
+    let t = tables-stops b in
+    let s = G .room .contents .stops in
+    record {
+      room = G .room;
+      good = good-tables G;
+      from-stop = omega arith;
+      to-stop = omega arith;
+      out-start = sym (ap (λ x. x .start) eo);
+      out-end = sym (ap (λ x. x .end) eo);
+      in-start = sym (ap (λ x. x .start) ei);
+      in-end = sym (ap (λ x. x .end) ei);
+      outs-in-order = rw eo (omega (arith, tables-start b outs u, tables-end b outs u));
+      ins-in-order = rw ei (omega (arith, tables-start b ins v, tables-end b ins v));
+      outs-within = rw eo (tables-within G outs u hu);
+      ins-within = rw ei (tables-within G ins v hv);
+    }

@@ -4,3 +4,5 @@ pub mod Candidates
 pub mod CandidateLaws
 pub mod Join
 pub mod JoinLaws
+pub mod Asks
+pub mod AskLaws

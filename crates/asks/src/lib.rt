@@ -1,17 +1,27 @@
 // Early, late and short over a tables file: one join serves the three.
 use journeys::Criterion;
 use kinds::Label;
+use kinds::Minute;
+use kinds::MinuteRead;
 use kinds::Refusal;
+use kinds::Stop;
+use kinds::StopRead;
+use tables::TablesRead;
 ghost use mathlib.Core.Path.{_≡_};
 ghost use Prim.Native.Nat.{ℕ, _+_, _≤_, _<_};
 ghost use lib.ListN.{length};
 ghost use Rattle.loops.specs.First.{FirstAt};
-ghost use Rattle.kinds.specs.Limits.{lastMinute};
+ghost use Rattle.kinds.specs.Limits.{mostStops};
 ghost use Rattle.journeys.specs.Tables.{Tables, outs, ins, Sketch};
 ghost use Rattle.tables.specs.File.{tablesOf, labelsOf, labelAt};
 ghost use Rattle.tables.specs.Good.{Room};
 ghost use Rattle.asks.specs.Found.{FoundIn, fitsB, aheadB, betterB, against, taken};
 ghost use Rattle.asks.specs.Candidates.{Past, FromOuts, Candidate, Behind};
+ghost use Rattle.tables.specs.Good.{GoodFile};
+ghost use Rattle.asks.specs.declared.AskRead.the-variants as ask;
+ghost use Rattle.asks.specs.declared.Wanted.the-variants as wanted;
+ghost use Rattle.asks.specs.Asks.{minutesRead, askRead, asked, Answers};
+ghost use Rattle.asks.specs.AskLaws.{GoodAsk};
 ghost use Rattle.asks.specs.Join.{Sets, pastB, OutTurn, OutsTo, InsTo, inTurn};
 
 // A journey by its time pair.
@@ -23,6 +33,31 @@ pub struct Journey {
 // What an ask gets.
 pub enum Answer {
     At(Journey),
+    No(Refusal),
+}
+
+// An ask's minutes as they are given.
+pub enum Wanted {
+    Early(u32),
+    Late(u32),
+    Short(u32, u32),
+}
+
+// The minutes judged: a criterion, or the number of the refusal.
+pub enum MinutesRead {
+    Good(Criterion),
+    No(u32),
+}
+
+// An ask that is in order: two different stops and a criterion.
+pub struct Asked {
+    pub from: u16,
+    pub to: u16,
+    pub criterion: Criterion,
+}
+
+pub enum AskRead {
+    Good(Asked),
     No(Refusal),
 }
 
@@ -219,4 +254,158 @@ fn over_ins(
         k += 1;
     }
     found
+}
+
+// The best sketch of a good ask.
+pub fn best_sketch(tables: &[u8], n: u16, q: Asked) -> Found
+    requires { ⌜ GoodFile (now tables) n ⌝ }
+    requires { ⌜ GoodAsk n q ⌝ }
+    ensures { λ r. ⌜ FoundIn (Sketch (tablesOf (now (tables .entry))) (q .from) (q .to)) (q .criterion) r ⌝ }
+{
+    let c = q.criterion;
+    let outs = tables::outs_of(tables, n, q.from);
+    let ins = tables::ins_of(tables, n, q.to);
+    let joined = over_outs(
+        tables,
+        n,
+        c,
+        q.from,
+        q.to,
+        outs.start,
+        outs.end,
+        ins.start,
+        ins.end,
+    );
+    let best = joined.best;
+    over_ins(tables, n, c, q.from, q.to, joined.next, ins.end, best)
+}
+
+// 14, then 15.
+fn judge_short(t: u32, t2: u32) -> MinutesRead
+    ensures { λ r. ⌜ r ≡ minutesRead (wanted.Short t t2) ⌝ }
+{
+    let first = Minute::new(t);
+    match first {
+        MinuteRead::Good(m) => {
+            let second = Minute::new(t2);
+            match second {
+                MinuteRead::Good(m2) => {
+                    if m2.0 < m.0 {
+                        return MinutesRead::No(Refusal::MINUTES_CROSSED);
+                    }
+                    MinutesRead::Good(Criterion::Short(m.0, m2.0))
+                }
+                MinuteRead::Bad => MinutesRead::No(Refusal::MINUTE_HIGH),
+            }
+        }
+        MinuteRead::Bad => MinutesRead::No(Refusal::MINUTE_HIGH),
+    }
+}
+
+fn judge_early(t: u32) -> MinutesRead
+    ensures { λ r. ⌜ r ≡ minutesRead (wanted.Early t) ⌝ }
+{
+    let read = Minute::new(t);
+    match read {
+        MinuteRead::Good(m) => MinutesRead::Good(Criterion::Early(m.0)),
+        MinuteRead::Bad => MinutesRead::No(Refusal::MINUTE_HIGH),
+    }
+}
+
+fn judge_late(t: u32) -> MinutesRead
+    ensures { λ r. ⌜ r ≡ minutesRead (wanted.Late t) ⌝ }
+{
+    let read = Minute::new(t);
+    match read {
+        MinuteRead::Good(m) => MinutesRead::Good(Criterion::Late(m.0)),
+        MinuteRead::Bad => MinutesRead::No(Refusal::MINUTE_HIGH),
+    }
+}
+
+fn judge_minutes(w: Wanted) -> MinutesRead
+    ensures { λ r. ⌜ r ≡ minutesRead w ⌝ }
+{
+    match w {
+        Wanted::Early(t) => judge_early(t),
+        Wanted::Late(t) => judge_late(t),
+        Wanted::Short(t, t2) => judge_short(t, t2),
+    }
+}
+
+// The stops and the minutes of an ask, among `n` stops: 12, 13, 14, 15.
+pub fn judge_ask(n: u16, from: u32, to: u32, w: Wanted) -> AskRead
+    requires { ⌜ n ≤ mostStops ⌝ }
+    ensures { λ r. ⌜ r ≡ askRead n from to w ⌝ }
+{
+    let first = Stop::new(from, n as u32);
+    let StopRead::Good(u) = first else {
+        return AskRead::No(Refusal::new(Refusal::STOP_HIGH, 0));
+    };
+    let second = Stop::new(to, n as u32);
+    let StopRead::Good(v) = second else {
+        return AskRead::No(Refusal::new(Refusal::STOP_HIGH, 0));
+    };
+    if u.0 == v.0 {
+        return AskRead::No(Refusal::new(Refusal::SAME_STOP, 0));
+    }
+    let minutes = judge_minutes(w);
+    match minutes {
+        MinutesRead::Good(criterion) => AskRead::Good(Asked {
+            from: u.0,
+            to: v.0,
+            criterion,
+        }),
+        MinutesRead::No(number) => AskRead::No(Refusal::new(number, 0)),
+    }
+}
+
+// The answer to a good ask over good tables.
+fn answer_good(tables: &[u8], n: u16, q: Asked) -> Answer
+    requires { ⌜ GoodFile (now tables) n ⌝ }
+    requires { ⌜ GoodAsk n q ⌝ }
+    ensures { λ r. ⌜ Answers (tablesOf (now (tables .entry))) (ask.Good q) r ⌝ }
+{
+    let found = best_sketch(tables, n, q);
+    match found {
+        Found::Pair(j) => Answer::At(j),
+        Found::Nothing => Answer::No(Refusal::new(Refusal::NO_JOURNEY, 0)),
+    }
+}
+
+// Any ask over any bytes.
+pub fn answered(tables: &[u8], from: u32, to: u32, w: Wanted) -> Answer
+    ensures { λ r. ⌜ Answers (tablesOf (now (tables .entry))) (asked (now (tables .entry)) from to w) r ⌝ }
+{
+    let read = tables::judge(tables);
+    match read {
+        TablesRead::Good(n) => {
+            let judged = judge_ask(n, from, to, w);
+            match judged {
+                AskRead::Good(q) => answer_good(tables, n, q),
+                AskRead::No(r) => Answer::No(r),
+            }
+        }
+        TablesRead::No(r) => Answer::No(r),
+    }
+}
+
+// early(u, v, t): departure at least t; least arrival, then latest departure.
+pub fn early(tables: &[u8], from: u32, to: u32, t: u32) -> Answer
+    ensures { λ r. ⌜ Answers (tablesOf (now (tables .entry))) (asked (now (tables .entry)) from to (wanted.Early t)) r ⌝ }
+{
+    answered(tables, from, to, Wanted::Early(t))
+}
+
+// late(u, v, t): arrival at most t; latest departure, then least arrival.
+pub fn late(tables: &[u8], from: u32, to: u32, t: u32) -> Answer
+    ensures { λ r. ⌜ Answers (tablesOf (now (tables .entry))) (asked (now (tables .entry)) from to (wanted.Late t)) r ⌝ }
+{
+    answered(tables, from, to, Wanted::Late(t))
+}
+
+// short(u, v, t, t2): departure at least t, arrival at most t2; least duration, then earliest departure.
+pub fn short(tables: &[u8], from: u32, to: u32, t: u32, t2: u32) -> Answer
+    ensures { λ r. ⌜ Answers (tablesOf (now (tables .entry))) (asked (now (tables .entry)) from to (wanted.Short t t2)) r ⌝ }
+{
+    answered(tables, from, to, Wanted::Short(t, t2))
 }
