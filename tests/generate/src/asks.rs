@@ -49,9 +49,11 @@ pub fn odd(rng: &mut Rng, n: u32, minutes: &[u32]) -> Ask {
         Ask { kind: rng.pick(&KINDS), from: 0, to: 0, t: 0, t2: 0 }
     };
     for _ in 0..rng.between(1, 2) {
-        let stop = rng.pick(&[0, n - 1, n, n + 1, 255, 256, 256 + ask.from, 65_536 + ask.to, u32::MAX]);
-        let minute =
-            rng.pick(&[0, 2_878, 2_879, 2_880, 2_881, 65_535, 65_536, 65_536 + ask.t, u32::MAX]);
+        // Some would pass for a good number if only their low bits were kept.
+        let (wide_from, wide_to) = (ask.from.wrapping_add(256), ask.to.wrapping_add(65_536));
+        let stop = rng.pick(&[0, n - 1, n, n + 1, 255, 256, wide_from, wide_to, u32::MAX]);
+        let wide = ask.t.wrapping_add(65_536);
+        let minute = rng.pick(&[0, 2_878, 2_879, 2_880, 2_881, 65_535, 65_536, wide, u32::MAX]);
         match rng.below(5) {
             0 => ask.from = stop,
             1 => ask.to = stop,

@@ -1,8 +1,8 @@
 //! The check: every label supported, no run with a gap.
 
-use crate::kinds::{Day, Refusal, LAST_MINUTE};
+use crate::kinds::{Day, Refusal};
 use crate::tables::{Label, Tables};
-use std::collections::HashMap;
+use std::collections::{BTreeMap, HashMap};
 
 /// A label with no pivot has a run with its ends and minutes; one with a pivot
 /// has both labels it opens into, and they meet.
@@ -15,38 +15,33 @@ pub fn supported(tables: &Tables, day: &Day, label: &Label) -> bool {
     }
 }
 
-/// The arrival of the tables' early ask, for every minute asked, worked out
-/// once for each u and v from all their sketches.
-struct Arrivals<'a> {
+/// The tables' early ask, its sketches gone through once for each u and v.
+pub struct Arrivals<'a> {
     tables: &'a Tables,
-    known: HashMap<(usize, usize), Vec<Option<u32>>>,
+    /// For u and v: each departure of a sketch, with the least arrival.
+    known: HashMap<(usize, usize), BTreeMap<u32, u32>>,
 }
 
 impl Arrivals<'_> {
-    fn early(&mut self, u: usize, v: usize, t: u32) -> Option<u32> {
-        let tables = self.tables;
-        let by_minute = self.known.entry((u, v)).or_insert_with(|| arrivals(tables, u, v));
-        by_minute[t as usize]
+    pub fn new(tables: &Tables) -> Arrivals<'_> {
+        Arrivals { tables, known: HashMap::new() }
     }
-}
 
-/// For each minute t, the least arrival over the sketches of u to v that leave
-/// at or after t.
-pub fn arrivals(tables: &Tables, u: usize, v: usize) -> Vec<Option<u32>> {
-    let sooner = |x: Option<u32>, y: Option<u32>| match (x, y) {
-        (Some(x), Some(y)) => Some(x.min(y)),
-        (x, None) => x,
-        (None, y) => y,
-    };
-    let mut least = vec![None; LAST_MINUTE as usize + 1];
-    tables.each_sketch(u, v, |sketch| {
-        let (dep, arr) = sketch.pair();
-        least[dep as usize] = sooner(least[dep as usize], Some(arr));
-    });
-    for t in (0..LAST_MINUTE as usize).rev() {
-        least[t] = sooner(least[t], least[t + 1]);
+    /// The arrival of early(u, v, t): the least over sketches that leave at or
+    /// after t.
+    pub fn early(&mut self, u: usize, v: usize, t: u32) -> Option<u32> {
+        let tables = self.tables;
+        let least = self.known.entry((u, v)).or_insert_with(|| {
+            let mut least = BTreeMap::new();
+            tables.each_sketch(u, v, |sketch| {
+                let (dep, arr) = sketch.pair();
+                let known = least.entry(dep).or_insert(arr);
+                *known = arr.min(*known);
+            });
+            least
+        });
+        least.range(t..).map(|(_, arr)| *arr).min()
     }
-    least
 }
 
 /// Accepts the tables for the day, or gives the first failure: 19 with its
@@ -57,7 +52,7 @@ pub fn check(tables: &Tables, day: &Day) -> Result<(), Refusal> {
             return Err(Refusal::at(19, k));
         }
     }
-    let mut arrivals = Arrivals { tables, known: HashMap::new() };
+    let mut arrivals = Arrivals::new(tables);
     for (i, run) in day.runs.iter().enumerate() {
         for v in 0..day.stops {
             if v == run.from {

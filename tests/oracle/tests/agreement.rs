@@ -144,13 +144,13 @@ fn arrivals_are_the_early_ask() {
     each_seed("arrivals_are_the_early_ask", 300, |rng| {
         let (sets, _) = tables::arbitrary(rng);
         let tables = judge_tables(&sets.bytes()).unwrap();
+        let mut arrivals = verdict::Arrivals::new(&tables);
         for (u, v) in ends(tables.stops) {
-            let arrivals = verdict::arrivals(&tables, u, v);
             for _ in 0..5 {
                 let last = rng.pick(&[40, 2_880]);
                 let t = rng.below(last);
                 let early = tables.ask(Ask::Early { t }, u, v);
-                assert_eq!(arrivals[t as usize], early.map(|p| p.1));
+                assert_eq!(arrivals.early(u, v, t), early.map(|p| p.1));
             }
         }
     });
