@@ -1,8 +1,7 @@
 //! The proved kiosk library, called safely from Rust: slices in, an enum out.
 //!
-//! Each call takes what the C boundary takes (see `include/kiosk.h`) and gives
-//! back a [`Result`]: what was found, or a [`Refusal`] with its number and its
-//! place. The library allocates nothing: results and working room go into
+//! Each call takes what the C boundary takes and gives back a [`Result`]: what
+//! was found, or a [`Refusal`] with its number and its place. The library allocates nothing: results and working room go into
 //! buffers that the caller lends. Whatever they held before, after a refusal
 //! they are all zero; after success they are zero beyond what was written;
 //! working room always ends zero.

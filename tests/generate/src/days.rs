@@ -180,6 +180,19 @@ pub fn with_labels(labels: u32) -> Day {
     Day { stops: line + 2, runs }
 }
 
+/// A day near every limit at once, 4,096 runs and 8,191 labels, on 4 stops: 1,365
+/// sweeps along 0, 1, 2, 3 have six labels for three runs each, and one run more.
+pub fn fullest() -> Day {
+    let mut runs = Vec::new();
+    for sweep in 0..1_365 {
+        for i in 0..3 {
+            runs.push([i, i + 1, sweep + i, sweep + i + 1, 1 + sweep]);
+        }
+    }
+    runs.push([3, 0, 0, 1, 1]);
+    Day { stops: 4, runs }
+}
+
 /// A city of 255 stops and up to 4,096 runs that keeps within 8,192 labels: 127
 /// lines of two stops each run to the hub, stop 0, and back, all day.
 pub fn city(rng: &mut Rng) -> Day {

@@ -139,27 +139,35 @@ pub fn arbitrary(rng: &mut Rng) -> (Sets, Day) {
     (sets, day)
 }
 
-/// Runs for the labels without a pivot, all but one in `miss` of them, some of
-/// them twice, and in any order.
-pub fn runs_for(rng: &mut Rng, sets: &Sets, miss: u32) -> Day {
+/// One run for each label without a pivot, in file order.
+pub fn a_run_each(sets: &Sets) -> Day {
     let mut runs = Vec::new();
     for (owner, two) in sets.stops.iter().enumerate() {
         for (side, set) in two.iter().enumerate() {
-            for l in set {
-                if l.pivot != NO_PIVOT || rng.one_in(miss) {
-                    continue;
-                }
+            for l in set.iter().filter(|l| l.pivot == NO_PIVOT) {
                 let (owner, hub) = (owner as u32, l.hub as u32);
                 let (from, to) = if side == OUT { (owner, hub) } else { (hub, owner) };
-                for _ in 0..if rng.one_in(5) { 2 } else { 1 } {
-                    runs.push([from, to, l.dep as u32, l.arr as u32, rng.between(1, 65_535)]);
-                }
+                runs.push([from, to, l.dep as u32, l.arr as u32, 1]);
             }
         }
     }
-    rng.shuffle(&mut runs);
-    runs.truncate(4_096);
     Day { stops: sets.stops.len() as u32, runs }
+}
+
+/// Runs for the labels without a pivot, all but one in `miss` of them, some of
+/// them twice, and in any order.
+pub fn runs_for(rng: &mut Rng, sets: &Sets, miss: u32) -> Day {
+    let mut day = a_run_each(sets);
+    day.runs.retain(|_| !rng.one_in(miss));
+    for i in 0..day.runs.len() {
+        if rng.one_in(5) {
+            day.runs.push(day.runs[i]);
+        }
+        day.runs[i][4] = rng.between(1, 65_535);
+    }
+    rng.shuffle(&mut day.runs);
+    day.runs.truncate(4_096);
+    day
 }
 
 /// Tables whose one answer opens some 2,800 levels deep, and the day whose runs
@@ -251,6 +259,23 @@ pub fn one_stop(count: u32) -> Sets {
         } else {
             sets.stops[253][IN].push(label);
         }
+    }
+    sets
+}
+
+/// `count` good labels that all belong to stop 254, half out, half in, on as many
+/// hubs as they need.
+pub fn one_owner(count: u32) -> Sets {
+    let mut sets = Sets::new(255);
+    for i in 0..count {
+        let (side, of_set) = ((i % 2) as usize, i / 2);
+        let label = Label {
+            hub: (of_set / 2_048) as u8,
+            dep: (of_set % 2_048) as u16,
+            arr: (of_set % 2_048 + 500) as u16,
+            pivot: NO_PIVOT,
+        };
+        sets.stops[254][side].push(label);
     }
     sets
 }
@@ -376,6 +401,7 @@ pub fn great_counts() -> Vec<Vec<u8>> {
     for count in [8_191, 8_192, 8_193, 8_194] {
         all.push(star(count).bytes());
         all.push(one_stop(count).bytes());
+        all.push(one_owner(count).bytes());
     }
     all
 }

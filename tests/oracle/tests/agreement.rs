@@ -164,6 +164,8 @@ fn larger_days_keep_their_promises() {
     let labels = rule::labels(&city).len();
     assert!((6_000..=8_192).contains(&labels), "{labels}");
     assert!(rule::tables(&judged(&days::sprawl(&mut rng))).is_err());
+    let fullest = judged(&days::fullest());
+    assert_eq!((fullest.runs.len(), rule::labels(&fullest).len()), (4_096, 8_191));
     for labels in [0, 1, 45, 1_000, 8_191, 8_192, 8_193] {
         assert_eq!(rule::labels(&judged(&days::with_labels(labels))).len(), labels as usize);
     }

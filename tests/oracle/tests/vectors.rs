@@ -113,8 +113,9 @@ fn tables_at_their_limits() {
     }
     let (wrapped, near) = judged.split_at(12);
     assert_eq!(wrapped, vec![Err(10); 12]);
-    assert_eq!(near[..4], [Ok(8_191), Ok(8_191), Ok(8_192), Ok(8_192)]);
-    assert_eq!(near[4..], [Err(10); 4]);
+    assert_eq!(near[..3], [Ok(8_191); 3]);
+    assert_eq!(near[3..6], [Ok(8_192); 3]);
+    assert_eq!(near[6..], [Err(10); 6]);
     for (bytes, number) in [
         (&[][..], 9),
         (&[1], 9),

@@ -149,12 +149,14 @@ pub fn tables_at_the_limits<S: Asks>() {
     ] {
         some_asks::<S>(&mut rng, &sets, 200);
     }
-    // All labels at two stops: the longest join there is.
-    let bytes = tables::one_stop(8_192).bytes();
+    // All labels at two stops, the longest join there is; and of one owner.
+    let (two, one) = (tables::one_stop(8_192).bytes(), tables::one_owner(8_192).bytes());
     for t in [0, 1, 1_000, 2_047, 2_048, 2_879] {
         for kind in KINDS {
-            ask::<S>(&bytes, Ask { kind, from: 254, to: 253, t, t2: 2_879 });
-            ask::<S>(&bytes, Ask { kind, from: 253, to: 254, t, t2: 2_879 });
+            for (from, to) in [(254, 253), (253, 254), (254, 0), (1, 254)] {
+                ask::<S>(&two, Ask { kind, from, to, t, t2: 2_879 });
+                ask::<S>(&one, Ask { kind, from, to, t, t2: 2_879 });
+            }
         }
     }
 }

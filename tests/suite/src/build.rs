@@ -170,6 +170,7 @@ pub fn days_at_the_limits<S: Builds>() {
     let mut rng = Rng::new(5);
     for day in [
         days::city(&mut rng),
+        days::fullest(),
         days::sprawl(&mut rng),
         days::one_pair(&mut rng),
         days::many_ties(&mut rng),

@@ -262,6 +262,7 @@ pub fn tables_at_the_limits<S: Checks>() {
     let mut rng = Rng::new(9);
     for day in [
         days::city(&mut rng),
+        days::fullest(),
         days::chain(),
         days::with_labels(8_192),
         days::one_pair(&mut rng),
@@ -273,13 +274,12 @@ pub fn tables_at_the_limits<S: Checks>() {
         assert_ne!(checked::<S>(&sets.without(k), &day)[0], 0);
         assert_ne!(checked::<S>(&sets.without(k / 2), &day)[0], 0);
     }
-    // All labels at two stops, one hub or two, each with its run.
-    let sets = tables::one_stop(4_096);
-    let day = tables::runs_for(&mut rng, &sets, u32::MAX);
-    checked::<S>(&sets, &day);
-    let sets = tables::star(4_096);
-    let day = tables::runs_for(&mut rng, &sets, u32::MAX);
-    checked::<S>(&sets, &day);
+    // All labels at two stops, in a star or of one owner, each with its run.
+    for sets in [tables::one_stop(4_096), tables::star(4_096), tables::one_owner(4_096)] {
+        let day = tables::a_run_each(&sets);
+        checked::<S>(&sets, &day);
+    }
+    // More labels than there can be runs; tables that open very deep.
     for sets in [tables::one_stop(8_192), tables::star(8_192), tables::deep(true).0] {
         let day = tables::runs_for(&mut rng, &sets, u32::MAX);
         checked::<S>(&sets, &day);

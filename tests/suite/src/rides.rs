@@ -275,12 +275,17 @@ pub fn deep_tables<S: Rides>() {
 
 pub fn tables_at_the_limits<S: Rides>() {
     let mut rng = Rng::new(19);
-    for day in [days::city(&mut rng), days::with_labels(8_192), days::one_pair(&mut rng)] {
+    for day in [
+        days::city(&mut rng),
+        days::fullest(),
+        days::with_labels(8_192),
+        days::one_pair(&mut rng),
+    ] {
         let sets = own(&day).unwrap();
         some_asks::<S>(&mut rng, &sets, &day, 60);
     }
     let sets = tables::one_stop(4_096);
-    let day = tables::runs_for(&mut rng, &sets, u32::MAX);
+    let day = tables::a_run_each(&sets);
     let (bytes, given) = (sets.bytes(), Given::new(&day));
     for t in [0, 1_000, 2_047, 2_879] {
         for kind in KINDS {
