@@ -6,3 +6,5 @@ pub mod JudgeLaws
 pub mod GoodLaws
 pub mod TablesLaws
 pub mod RefusalLaws
+pub mod Write
+pub mod WriteLaws
