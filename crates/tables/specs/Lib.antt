@@ -8,3 +8,4 @@ pub mod TablesLaws
 pub mod RefusalLaws
 pub mod Write
 pub mod WriteLaws
+pub mod OneFile
