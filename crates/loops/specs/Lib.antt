@@ -13,3 +13,4 @@ pub mod FirstOf
 pub mod FirstOfLaws
 pub mod Filled
 pub mod FilledLaws
+pub mod Rows

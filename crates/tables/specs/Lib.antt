@@ -6,3 +6,6 @@ pub mod JudgeLaws
 pub mod GoodLaws
 pub mod TablesLaws
 pub mod RefusalLaws
+pub mod Write
+pub mod WriteLaws
+pub mod OneFile

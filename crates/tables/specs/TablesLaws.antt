@@ -11,12 +11,14 @@ use lib.ListN.{length, getD}
 use lib.Dec.{eqb}
 use borrow.Author.Tests.{eq-eqb, ne-eqb, eqb-false}
 use Rattle.loops.specs.Chain.{past}
+use Rattle.loops.specs.Filled.{filled}
+use Rattle.loops.specs.FilledLaws.{filled-at}
 use Rattle.kinds.specs.Limits.{noPivot, lastMinute}
 use Rattle.kinds.specs.KindsLaws.{GoodPivot}
 use Rattle.kinds.specs.declared.Label.{Label}
 use Rattle.journeys.specs.Tables.{Side, outs, ins, Tables, Entry, GoodTables}
 use Rattle.tables.specs.File.{stopsOf, setOf, ownerOf, countOf, startOf, endOf, labelsOf, labelAt, pivotOf, tablesOf}
-use Rattle.tables.specs.FileLaws.{set-within}
+use Rattle.tables.specs.FileLaws.{start-more, set-within}
 use Rattle.tables.specs.Good.{After, higher, later, LabelGood, GoodEntry, GoodFile}
 use Rattle.tables.specs.GoodLaws.{after-trans}
 
@@ -59,11 +61,11 @@ pub tables-end : (b : List ℕ) (side : Side) (s : ℕ) → tablesOf b .end side
 unfolding tablesOf
 tables-end b side s = refl
 
-set-owner : (side : Side) (s : ℕ) → ownerOf (setOf side s) ≡ s
+pub set-owner : (side : Side) (s : ℕ) → ownerOf (setOf side s) ≡ s
 set-owner outs s = omega arith
 set-owner ins s = omega arith
 
-set-below : (side : Side) (s n : ℕ) → s < n → setOf side s < 2 * n
+pub set-below : (side : Side) (s n : ℕ) → s < n → setOf side s < 2 * n
 set-below outs s n lt = omega arith
 set-below ins s n lt = omega arith
 
@@ -74,7 +76,7 @@ module _ {b : List ℕ} {n : ℕ} (g : GoodFile b n) where
   tables-within side s lt = set-within (g .room .contents) (set-below side s n lt)
 
   -- labels of one set rise
-  rises : (set i k : ℕ) → set < 2 * n → i < k → k < countOf b set → After (labelAt b (startOf b set + i)) (labelAt b (startOf b set + k))
+  pub rises : (set i k : ℕ) → set < 2 * n → i < k → k < countOf b set → After (labelAt b (startOf b set + i)) (labelAt b (startOf b set + k))
   rises set i zero lt l m = absurd (omega arith)
   rises set i (suc k) lt l m =
       let last : After (labelAt b (startOf b set + k)) (labelAt b (startOf b set + suc k)) =
@@ -140,3 +142,14 @@ module _ {b : List ℕ} {n : ℕ} (g : GoodFile b n) where
       arrs : {m l : Label} → After m l → m .hub ≡ l .hub → m .arr < l .arr
       arrs (higher h) e = absurd (omega arith)
       arrs (later e h k) f = k
+
+-- ---- a list with the starts of all sets, as `starts` writes it: where a set begins, and where it ends
+
+module _ (b : List ℕ) (n : ℕ) (room : List ℕ) (long : 2 * n + 1 ≤ length room) (side : Side) (s : ℕ) (lt : s < n) where
+  pub starts-start : getD (filled (startOf b) (2 * n + 1) room) (setOf side s) 0 ≡ tablesOf b .start side s
+  unfolding tablesOf
+  starts-start = filled-at (startOf b) (2 * n + 1) room (setOf side s) (omega (arith, set-below side s n lt)) long
+
+  pub starts-end : getD (filled (startOf b) (2 * n + 1) room) (setOf side s + 1) 0 ≡ tablesOf b .end side s
+  unfolding tablesOf
+  starts-end = filled-at (startOf b) (2 * n + 1) room (setOf side s + 1) (omega (arith, set-below side s n lt)) long ∙ start-more b (setOf side s)

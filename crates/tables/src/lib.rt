@@ -12,6 +12,7 @@ ghost use Rattle.journeys.specs.Tables.{outs, ins};
 ghost use Rattle.tables.specs.Format.{headerBytes};
 ghost use Rattle.tables.specs.File.{twoAt, stopsOf, countOf, startOf, endOf, labelsOf, placeOf, pivotRead, labelAt, tablesOf, boundsOf, follows, goodLabel, badInSet, firstBad, judgedContents, judgedTables};
 ghost use Rattle.tables.specs.JudgeLaws.{labelsRead};
+ghost use Rattle.tables.specs.Write.{putTwo, putHeader, putCount, pivotByte, putLabel};
 ghost use Rattle.tables.specs.Good.{Contents, Room};
 
 // Format 1 of the file (specs/Format.antt).
@@ -290,4 +291,54 @@ pub fn starts(bytes: &[u8], n: u16, room: &mut [u16])
         set += 1;
     }
     room[sets] = start as u16;
+}
+
+// ---- Writing, for the builder: each of these leaves every other byte as it was (specs/WriteLaws.antt).
+
+fn put_two(bytes: &mut [u8], i: usize, x: u16)
+    requires { ⌜ i + 1 < length (now bytes) ⌝ }
+    ensures { λ _. ⌜ now (bytes .exit) ≡ putTwo (now (bytes .entry)) i x ⌝ }
+{
+    bytes[i] = (x % 256) as u8;
+    bytes[i + 1] = (x / 256) as u8;
+}
+
+// The bytes before the contents.
+pub fn write_header(bytes: &mut [u8], n: u16)
+    requires { ⌜ n ≤ mostStops ⌝ }
+    requires { ⌜ headerBytes ≤ length (now bytes) ⌝ }
+    ensures { λ _. ⌜ now (bytes .exit) ≡ putHeader (now (bytes .entry)) n ⌝ }
+{
+    bytes[0] = MARK;
+    bytes[1] = n as u8;
+}
+
+// How many labels a set has.
+pub fn write_count(bytes: &mut [u8], set: usize, count: u16)
+    requires { ⌜ headerBytes + 2 * set + 2 ≤ length (now bytes) ⌝ }
+    ensures { λ _. ⌜ now (bytes .exit) ≡ putCount (now (bytes .entry)) set count ⌝ }
+{
+    put_two(bytes, HEADER + 2 * set, count);
+}
+
+fn pivot_byte(p: u16) -> u8
+    ensures { λ r. ⌜ r ≡ pivotByte p ⌝ }
+{
+    if p == Label::NO_PIVOT {
+        return NO_PIVOT;
+    }
+    (p % 256) as u8
+}
+
+// Label k of a file of n stops.
+pub fn write_label(bytes: &mut [u8], n: u16, k: usize, l: Label)
+    requires { ⌜ k < mostLabels ⌝ }
+    requires { ⌜ placeOf n (k + 1) ≤ length (now bytes) ⌝ }
+    ensures { λ _. ⌜ now (bytes .exit) ≡ putLabel (now (bytes .entry)) n k l ⌝ }
+{
+    let at = file_length(n, k);
+    bytes[at] = (l.hub % 256) as u8;
+    put_two(bytes, at + 1, l.dep);
+    put_two(bytes, at + 3, l.arr);
+    bytes[at + 5] = pivot_byte(l.pivot);
 }
