@@ -1,2 +1,4 @@
 pub mod Lines
 pub mod LinesLaws
+pub mod Text
+pub mod Reading
