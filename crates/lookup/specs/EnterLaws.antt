@@ -6,7 +6,7 @@ use mathlib.Core.Bool.{cond}
 use native.Mathlib.Omega.{arith}
 use native.Mathlib.Numerals.{add-one}
 use native.Mathlib.Decide.{ℕ-discrete}
-use lib.ListN.{length, getD, set, length-set}
+use lib.ListN.{length, getD, set, replicate, length-set, length-replicate, getD-replicate}
 use lib.Seq.{getD-set-same, getD-set-other}
 use lib.Dec.{eqb}
 use borrow.Author.Tests.{eq-eqb, ne-eqb}
@@ -58,3 +58,16 @@ module _ {s codes : List ℕ} {j : ℕ} {heads nexts : List ℕ} (x : Indexed s 
           rw (d, bucket-new s codes j start n room, last-kept s codes j start n (bucketOf s start n) j (omega arith), getD-set-same nexts j (getD heads b 0) 0 (omega (arith, x .nexts-long)), ← e) (x .head b lt)
       next-of i h (no d) =
           rw (getD-set-other nexts j i (getD heads b 0) 0 d, bucket-kept s codes j start n i (omega arith), last-kept s codes j start n (bucketAt s codes i) i (omega arith)) (x .next i (omega arith))
+
+-- the index of no codes is all zero
+pub entered-none : (s codes : List ℕ) → Indexed s codes 0 (replicate buckets 0) (replicate mostStops 0)
+unfolding lastIn
+entered-none s codes =
+    record {
+      codes-placed = record { listed = omega arith; placed = λ j h. absurd (omega arith) };
+      few = omega arith;
+      heads-long = length-replicate {A = ℕ} buckets 0;
+      nexts-long = length-replicate {A = ℕ} mostStops 0;
+      head = λ b h. getD-replicate {A = ℕ} buckets b 0 0 h;
+      next = λ j h. absurd (omega arith);
+    }

@@ -20,6 +20,9 @@ pub fn has_code(s: &[u8], codes: &[u32], j: usize, t: &[u8], from: usize, n: usi
     false
 }
 
+// How many buckets the index has. Its heads are as many numbers, its nexts one number a stop.
+pub const BUCKETS: usize = 1024;
+
 // The bytes weighed, as a small number: equal codes have the same one.
 fn bucket(t: &[u8], from: usize, n: usize) -> usize
     requires { ⌜ from + n ≤ length (now t) ⌝ }
@@ -32,7 +35,7 @@ fn bucket(t: &[u8], from: usize, n: usize) -> usize
         sum += (k as u32 + 31) * (t[from + k] as u32);
         k += 1;
     }
-    (sum % 1024) as usize
+    sum as usize % BUCKETS
 }
 
 fn weighed_bytes(n: usize) -> usize

@@ -4,6 +4,7 @@ use kinds::Refusal;
 use kinds::Run;
 use kinds::RunRead;
 use kinds::Stop;
+use kinds::Text;
 use words::Number;
 use words::NumberRead;
 ghost use mathlib.Core.Path.{_≡_};
@@ -12,9 +13,10 @@ ghost use lib.ListN.{length};
 ghost use Rattle.reader.specs.Lines.{Stretch, numbersAt, fieldsAt, stopLine, runFields, runLine, lineOf};
 ghost use Rattle.reader.specs.LinesLaws.{FieldsWithin};
 ghost use Rattle.kinds.specs.Refusals.{refusal};
-ghost use Rattle.reader.specs.Text.{putRun, answerOf};
+ghost use Rattle.reader.specs.Text.{putRun, readText, answerOf};
 ghost use Rattle.reader.specs.Reading.{linesOf, filledFor, Readable};
 ghost use Rattle.kinds.specs.Limits.{runNumbers};
+ghost use Rattle.loops.specs.Zero.{zeros};
 ghost use Rattle.lookup.specs.Index.{Indexed};
 
 // How many stops and runs were read.
@@ -339,4 +341,28 @@ fn read_lines(
             }
         }
     }
+}
+
+// The whole text, into rooms that are zero. A refusal leaves what was written.
+fn read_text(text: &[u8], runs: &mut [u32], codes: &mut [u32]) -> ReadAnswer
+    requires { ⌜ (now runs ≡ zeros (now runs)) × (now codes ≡ zeros (now codes)) ⌝ }
+    ensures { λ r. ⌜ r ≡ answerOf (readText (now (text .entry)) (length (now (runs .entry))) (length (now (codes .entry)))) ⌝ }
+    ensures { λ r. ⌜ filledFor (readText (now (text .entry)) (length (now (runs .entry))) (length (now (codes .entry)))) (now (runs .exit)) (now (codes .exit)) ⌝ }
+{
+    if runs.len() < Run::ROOM {
+        return refuse(Refusal::ROOM_SHORT, 0);
+    }
+    if codes.len() < Stop::CODES_ROOM {
+        return refuse(Refusal::ROOM_SHORT, 0);
+    }
+    if Text::MOST < text.len() {
+        return refuse(Refusal::OVER_LIMIT, 0);
+    }
+    let first = b"timetable 1\n";
+    if words::begins(text, 0, text.len(), first) {
+        let mut heads = [0u16; lookup::BUCKETS];
+        let mut nexts = [0u16; Stop::MOST];
+        return read_lines(text, first.len(), runs, codes, &mut heads, &mut nexts);
+    }
+    refuse(Refusal::FIRST_LINE, 1)
 }

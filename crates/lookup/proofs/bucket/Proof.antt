@@ -66,7 +66,7 @@ loop-again c =
     weighing-more (at .inv) (search needs) (omega (arith, c .shared-slice-known2 .given (a .from + at .k)))
 
 cast-result : tie.Need-cast-result Inv-loop μ-loop
-cast-result c = search needs
+cast-result c = omega (arith, c .before .loop .inv .small, c .before .loop .inv .low, weighing-few (c .before .loop .inv))
 
 returns : tie.Need-returns Inv-loop μ-loop
 returns c = (weighing-end (c .before .loop .inv) (search needs), search needs)
