@@ -10,6 +10,7 @@ use borrow.Author.Tests.{le-leb, lt-leb, lt-ltb, le-ltb}
 use Rattle.loops.specs.Zero.{zeros}
 use Rattle.kinds.specs.Limits.{mostStops, mostRuns, mostText, runsRoom, codesRoom}
 use Rattle.kinds.specs.Refusals.{refusal, lineShape}
+use Rattle.kinds.specs.declared.Refusal.{Refusal}
 use Rattle.kinds.specs.declared.Code.{Code}
 use Rattle.kinds.specs.declared.Run.{Run}
 use Rattle.words.specs.Words.{lf, seek}
@@ -18,7 +19,8 @@ use Rattle.lookup.specs.Lookup.{putCode}
 use Rattle.lookup.specs.Index.{Indexed}
 use Rattle.reader.specs.Lines.{lineOf}
 use Rattle.reader.specs.LinesLaws.{run-known}
-use Rattle.reader.specs.Text.{Sofar, Outcome, whole, bad, putRun, withStop, withRun, next, readFrom, start, answerOf}
+use Rattle.reader.specs.Text.{Sofar, Outcome, whole, bad, putRun, withStop, withRun, next, readFrom, start, answerOf, runsOf, codesOf}
+use Rattle.reader.specs.declared.Counts.{Counts}
 use Rattle.reader.specs.declared.Line.{Line}
 use Rattle.reader.specs.declared.Line.the-variants as kind
 use Rattle.reader.specs.declared.ReadAnswer.the-variants.{Read, No}
@@ -131,3 +133,20 @@ module _ {s : List ℕ} {o : Outcome} {roomR roomC a line stops runs : ℕ} {num
           runs-same = rw p (simp length-set (r .runs-same));
           codes-same = r .codes-same;
         }
+
+-- what the loop left is what the rooms hold in the end, once a refusal's are zeroed
+module _ (o : Outcome) (numbers codes : List ℕ) where
+  pub filled-whole : (k : Counts) (n m : ℕ) → filledFor o numbers codes → Read k ≡ answerOf o → (numbers ≡ runsOf o n) × (codes ≡ codesOf o m)
+  filled-whole k n m = go o
+    where
+      go : (o : Outcome) → filledFor o numbers codes → Read k ≡ answerOf o → (numbers ≡ runsOf o n) × (codes ≡ codesOf o m)
+      go (whole b) f e = f
+      go (bad i p) f e = absurd (let z : _≡_ {A = ℕ} 0 1 = cc in omega arith)
+
+  pub filled-refused : (k : Refusal) → No k ≡ answerOf o → (zeros numbers ≡ runsOf o (length numbers)) × (zeros codes ≡ codesOf o (length codes))
+  unfolding zeros
+  filled-refused k = go o
+    where
+      go : (o : Outcome) → No k ≡ answerOf o → (zeros numbers ≡ runsOf o (length numbers)) × (zeros codes ≡ codesOf o (length codes))
+      go (whole b) e = absurd (let z : _≡_ {A = ℕ} 0 1 = cc in omega arith)
+      go (bad i p) e = (refl, refl)

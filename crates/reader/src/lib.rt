@@ -13,7 +13,7 @@ ghost use lib.ListN.{length};
 ghost use Rattle.reader.specs.Lines.{Stretch, numbersAt, fieldsAt, stopLine, runFields, runLine, lineOf};
 ghost use Rattle.reader.specs.LinesLaws.{FieldsWithin};
 ghost use Rattle.kinds.specs.Refusals.{refusal};
-ghost use Rattle.reader.specs.Text.{putRun, readText, answerOf};
+ghost use Rattle.reader.specs.Text.{putRun, readText, answerOf, runsOf, codesOf};
 ghost use Rattle.reader.specs.Reading.{linesOf, filledFor, Readable};
 ghost use Rattle.kinds.specs.Limits.{runNumbers};
 ghost use Rattle.loops.specs.Zero.{zeros};
@@ -365,4 +365,24 @@ fn read_text(text: &[u8], runs: &mut [u32], codes: &mut [u32]) -> ReadAnswer
         return read_lines(text, first.len(), runs, codes, &mut heads, &mut nexts);
     }
     refuse(Refusal::FIRST_LINE, 1)
+}
+
+// The timetable text, read into the two rooms: five numbers a run, and start and length of each stop's code.
+// What is not written is zero, and after a refusal both rooms are.
+pub fn read(text: &[u8], runs: &mut [u32], codes: &mut [u32]) -> ReadAnswer
+    ensures { λ r. ⌜ r ≡ answerOf (readText (now (text .entry)) (length (now (runs .entry))) (length (now (codes .entry)))) ⌝ }
+    ensures { λ _. ⌜ now (runs .exit) ≡ runsOf (readText (now (text .entry)) (length (now (runs .entry))) (length (now (codes .entry)))) (length (now (runs .entry))) ⌝ }
+    ensures { λ _. ⌜ now (codes .exit) ≡ codesOf (readText (now (text .entry)) (length (now (runs .entry))) (length (now (codes .entry)))) (length (now (codes .entry))) ⌝ }
+{
+    loops::zero_u32(runs);
+    loops::zero_u32(codes);
+    let a = read_text(text, runs, codes);
+    match a {
+        ReadAnswer::Read(counts) => ReadAnswer::Read(counts),
+        ReadAnswer::No(refused) => {
+            loops::zero_u32(runs);
+            loops::zero_u32(codes);
+            ReadAnswer::No(refused)
+        }
+    }
 }
