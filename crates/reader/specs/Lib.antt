@@ -1,4 +1,2 @@
-pub mod Lines
-pub mod LinesLaws
 pub mod Text
 pub mod Reading

@@ -17,12 +17,12 @@ use Rattle.words.specs.Words.{lf, seek}
 use Rattle.words.specs.WordsLaws.{seek-end, seek-low}
 use Rattle.lookup.specs.Lookup.{putCode}
 use Rattle.lookup.specs.Index.{Indexed}
-use Rattle.reader.specs.Lines.{lineOf}
-use Rattle.reader.specs.LinesLaws.{run-known}
+use Rattle.lines.specs.Lines.{lineOf}
+use Rattle.lines.specs.LinesLaws.{run-known}
 use Rattle.reader.specs.Text.{Sofar, Outcome, whole, bad, putRun, withStop, withRun, next, readFrom, start, answerOf, runsOf, codesOf}
 use Rattle.reader.specs.declared.Counts.{Counts}
-use Rattle.reader.specs.declared.Line.{Line}
-use Rattle.reader.specs.declared.Line.the-variants as kind
+use Rattle.lines.specs.declared.Line.{Line}
+use Rattle.lines.specs.declared.Line.the-variants as kind
 use Rattle.reader.specs.declared.ReadAnswer.the-variants.{Read, No}
 
 -- the lines from a on, read into rooms of these lengths

@@ -3,14 +3,14 @@ use Prim.Native.Nat.{_-_}
 use mathlib.Core.Path.{_≡_, refl, sym, _∙_}
 use native.Mathlib.Omega.{arith}
 use lib.ListN.{length, length-set}
-use Rattle.reader.specs.LinesLaws.{stop-known, run-known}
+use Rattle.lines.specs.LinesLaws.{stop-known, run-known}
 use Rattle.reader.specs.Reading.{linesOf, Reading, reading-none, reading-unfinished, reading-bad, reading-after, reading-whole, reading-stop, reading-run}
 use Rattle.reader.proofs.read_lines.Statement.{statement}
 use Rattle.reader.proofs.read_lines.Tie as tie
 use Rattle.reader.proofs.read_lines.Reads as reads
 use Rattle.reader.proofs.read_lines.Lts as lts
 use Rattle.lookup.proofs.enter.Reads as enter-reads
-use Rattle.reader.proofs.line_at.Reads as line-at-reads
+use Rattle.lines.proofs.line_at.Reads as line-at-reads
 use Rattle.reader.proofs.put_run.Reads as put-run-reads
 use Rattle.reader.proofs.refuse.Reads as refuse-reads
 use Rattle.words.proofs.seek.Reads as seek-reads

@@ -2,14 +2,14 @@ use mathlib.Core.Path.{sym, _∙_}
 use native.Mathlib.Omega.{arith}
 use borrow.Author.Tests.{eq-eqb, ne-eqb}
 use Rattle.words.specs.WordsLaws.{begins-long}
-use Rattle.reader.specs.Lines.{lineOf}
+use Rattle.lines.specs.Lines.{lineOf}
 use borrow.Author.Needs.{needs}
-use Rattle.reader.proofs.line_at.Statement.{statement}
-use Rattle.reader.proofs.line_at.Tie as tie
-use Rattle.reader.proofs.line_at.Reads as reads
-use Rattle.reader.proofs.line_at.Lts as lts
-use Rattle.reader.proofs.run_line.Reads as run-line-reads
-use Rattle.reader.proofs.stop_line.Reads as stop-line-reads
+use Rattle.lines.proofs.line_at.Statement.{statement}
+use Rattle.lines.proofs.line_at.Tie as tie
+use Rattle.lines.proofs.line_at.Reads as reads
+use Rattle.lines.proofs.line_at.Lts as lts
+use Rattle.lines.proofs.run_line.Reads as run-line-reads
+use Rattle.lines.proofs.stop_line.Reads as stop-line-reads
 use Rattle.words.proofs.begins.Reads as begins-reads
 use Rattle.words.proofs.is_word.Reads as is-word-reads
 

@@ -1,11 +1,11 @@
 use mathlib.Core.Path.{sym, _∙_}
 use borrow.Author.Tests.{le-leb, lt-leb}
-use Rattle.reader.specs.Lines.{runFields}
+use Rattle.lines.specs.Lines.{runFields}
 use borrow.Author.Needs.{needs}
-use Rattle.reader.proofs.run_fields.Statement.{statement}
-use Rattle.reader.proofs.run_fields.Tie as tie
-use Rattle.reader.proofs.run_fields.Reads as reads
-use Rattle.reader.proofs.run_fields.Lts as lts
+use Rattle.lines.proofs.run_fields.Statement.{statement}
+use Rattle.lines.proofs.run_fields.Tie as tie
+use Rattle.lines.proofs.run_fields.Reads as reads
+use Rattle.lines.proofs.run_fields.Lts as lts
 use Rattle.kinds.proofs.Run.new.Reads as new-reads
 use Rattle.lookup.proofs.find.Reads as find-reads
 

@@ -18,15 +18,15 @@ use Rattle.kinds.specs.declared.RunRead.the-variants as run
 use Rattle.words.specs.Words.{space, seek, beginsB, isWordB, isCode}
 use Rattle.words.specs.WordsLaws.{seek-low, begins-long}
 use Rattle.lookup.specs.Lookup.{stopNamed}
-use Rattle.reader.specs.Lines.{numbersAt, fielded, fieldsAt, stopLine, judged, runFields, shaped, runLine, runWord, stopWord, endWord, lineOf}
-use Rattle.reader.specs.declared.NumbersRead.{NumbersRead}
-use Rattle.reader.specs.declared.NumbersRead.the-variants as numbers
-use Rattle.reader.specs.declared.Field.{Field}
-use Rattle.reader.specs.declared.Fields.{Fields}
-use Rattle.reader.specs.declared.FieldsRead.{FieldsRead}
-use Rattle.reader.specs.declared.FieldsRead.the-variants as fields
-use Rattle.reader.specs.declared.Line.{Line}
-use Rattle.reader.specs.declared.Line.the-variants as line
+use Rattle.lines.specs.Lines.{numbersAt, fielded, fieldsAt, stopLine, judged, runFields, shaped, runLine, runWord, stopWord, endWord, lineOf}
+use Rattle.lines.specs.declared.NumbersRead.{NumbersRead}
+use Rattle.lines.specs.declared.NumbersRead.the-variants as numbers
+use Rattle.lines.specs.declared.Field.{Field}
+use Rattle.lines.specs.declared.Fields.{Fields}
+use Rattle.lines.specs.declared.FieldsRead.{FieldsRead}
+use Rattle.lines.specs.declared.FieldsRead.the-variants as fields
+use Rattle.lines.specs.declared.Line.{Line}
+use Rattle.lines.specs.declared.Line.the-variants as line
 
 -- the codes of a run line stand in the text
 pub record FieldsWithin (s : List ℕ) (f : Fields) : Type 0 where

@@ -1,10 +1,10 @@
 use borrow.Author.Tests.{le-leb, lt-leb, lt-ltb, le-ltb}
-use Rattle.reader.specs.Lines.{stopLine}
+use Rattle.lines.specs.Lines.{stopLine}
 use borrow.Author.Needs.{needs}
-use Rattle.reader.proofs.stop_line.Statement.{statement}
-use Rattle.reader.proofs.stop_line.Tie as tie
-use Rattle.reader.proofs.stop_line.Reads as reads
-use Rattle.reader.proofs.stop_line.Lts as lts
+use Rattle.lines.proofs.stop_line.Statement.{statement}
+use Rattle.lines.proofs.stop_line.Tie as tie
+use Rattle.lines.proofs.stop_line.Reads as reads
+use Rattle.lines.proofs.stop_line.Lts as lts
 use Rattle.lookup.proofs.find.Reads as find-reads
 use Rattle.words.proofs.is_code.Reads as is-code-reads
 

@@ -1,12 +1,12 @@
 use mathlib.Core.Path.{sym, _∙_}
 use borrow.Author.Tests.{le-leb, lt-leb}
-use Rattle.reader.specs.Lines.{fieldsAt}
+use Rattle.lines.specs.Lines.{fieldsAt}
 use borrow.Author.Needs.{needs}
-use Rattle.reader.proofs.fields_at.Statement.{statement}
-use Rattle.reader.proofs.fields_at.Tie as tie
-use Rattle.reader.proofs.fields_at.Reads as reads
-use Rattle.reader.proofs.fields_at.Lts as lts
-use Rattle.reader.proofs.numbers_at.Reads as numbers-at-reads
+use Rattle.lines.proofs.fields_at.Statement.{statement}
+use Rattle.lines.proofs.fields_at.Tie as tie
+use Rattle.lines.proofs.fields_at.Reads as reads
+use Rattle.lines.proofs.fields_at.Lts as lts
+use Rattle.lines.proofs.numbers_at.Reads as numbers-at-reads
 use Rattle.words.proofs.seek.Reads as seek-reads
 
 seek-requires : tie.Need-seek-requires

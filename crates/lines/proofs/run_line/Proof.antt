@@ -1,14 +1,14 @@
 use mathlib.Core.Path.{sym, _∙_}
 use borrow.Author.Tests.{eq-eqb, ne-eqb}
-use Rattle.reader.specs.Lines.{runLine}
-use Rattle.reader.specs.LinesLaws.{fields-within}
+use Rattle.lines.specs.Lines.{runLine}
+use Rattle.lines.specs.LinesLaws.{fields-within}
 use borrow.Author.Needs.{needs}
-use Rattle.reader.proofs.run_line.Statement.{statement}
-use Rattle.reader.proofs.run_line.Tie as tie
-use Rattle.reader.proofs.run_line.Reads as reads
-use Rattle.reader.proofs.run_line.Lts as lts
-use Rattle.reader.proofs.fields_at.Reads as fields-at-reads
-use Rattle.reader.proofs.run_fields.Reads as run-fields-reads
+use Rattle.lines.proofs.run_line.Statement.{statement}
+use Rattle.lines.proofs.run_line.Tie as tie
+use Rattle.lines.proofs.run_line.Reads as reads
+use Rattle.lines.proofs.run_line.Lts as lts
+use Rattle.lines.proofs.fields_at.Reads as fields-at-reads
+use Rattle.lines.proofs.run_fields.Reads as run-fields-reads
 
 returns : tie.Need-returns
 unfolding runLine

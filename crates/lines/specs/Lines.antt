@@ -14,15 +14,15 @@ use Rattle.words.specs.declared.Number.{Number}
 use Rattle.words.specs.declared.NumberRead.{NumberRead}
 use Rattle.words.specs.declared.NumberRead.the-variants as number
 use Rattle.lookup.specs.Lookup.{stopNamed}
-use Rattle.reader.specs.declared.Numbers.{Numbers}
-use Rattle.reader.specs.declared.NumbersRead.{NumbersRead}
-use Rattle.reader.specs.declared.NumbersRead.the-variants as numbers
-use Rattle.reader.specs.declared.Field.{Field}
-use Rattle.reader.specs.declared.Fields.{Fields}
-use Rattle.reader.specs.declared.FieldsRead.{FieldsRead}
-use Rattle.reader.specs.declared.FieldsRead.the-variants as fields
-use Rattle.reader.specs.declared.Line.{Line}
-use Rattle.reader.specs.declared.Line.the-variants.{Stop, Run, End, Bad}
+use Rattle.lines.specs.declared.Numbers.{Numbers}
+use Rattle.lines.specs.declared.NumbersRead.{NumbersRead}
+use Rattle.lines.specs.declared.NumbersRead.the-variants as numbers
+use Rattle.lines.specs.declared.Field.{Field}
+use Rattle.lines.specs.declared.Fields.{Fields}
+use Rattle.lines.specs.declared.FieldsRead.{FieldsRead}
+use Rattle.lines.specs.declared.FieldsRead.the-variants as fields
+use Rattle.lines.specs.declared.Line.{Line}
+use Rattle.lines.specs.declared.Line.the-variants.{Stop, Run, End, Bad}
 
 -- a stretch of a text that is not too long
 pub record Stretch (s : List ℕ) (a e : ℕ) : Type 0 where

@@ -2,12 +2,12 @@ use mathlib.Core.Path.{_≡_, sym, _∙_}
 use lib.Dec.{leb, ltb}
 use borrow.Author.Tests.{le-leb, lt-leb, lt-ltb, le-ltb}
 use Rattle.words.specs.WordsLaws.{number-bad}
-use Rattle.reader.specs.Lines.{numbersAt}
+use Rattle.lines.specs.Lines.{numbersAt}
 use borrow.Author.Needs.{needs}
-use Rattle.reader.proofs.numbers_at.Statement.{statement}
-use Rattle.reader.proofs.numbers_at.Tie as tie
-use Rattle.reader.proofs.numbers_at.Reads as reads
-use Rattle.reader.proofs.numbers_at.Lts as lts
+use Rattle.lines.proofs.numbers_at.Statement.{statement}
+use Rattle.lines.proofs.numbers_at.Tie as tie
+use Rattle.lines.proofs.numbers_at.Reads as reads
+use Rattle.lines.proofs.numbers_at.Lts as lts
 use Rattle.words.proofs.number_at.Reads as number-at-reads
 
 number-at-requires : tie.Need-number-at-requires
