@@ -61,12 +61,19 @@ pub fn vectors<S: Rides>() {
         let sets = own(&asked.day).unwrap();
         must_list::<S>(&sets, &asked.day, asked.ask, asked.answer, &asked.rides);
     }
-    for (sets, asked) in [
-        vectors::single_ties_with_joined(),
-        vectors::hubs_tie(true),
-        vectors::hubs_tie(false),
-    ] {
+    for (sets, asked) in
+        [vectors::single_ties_with_joined(), vectors::hubs_tie(true), vectors::hubs_tie(false)]
+    {
         must_list::<S>(&sets, &asked.day, asked.ask, asked.answer, &asked.rides);
+    }
+    for v in vectors::numbers() {
+        let given = Given { stops: v.stops, run_count: v.run_count, runs: v.runs };
+        let tables = Sets::new(v.stops.clamp(1, 255)).bytes();
+        let ask = Ask { kind: Kind::Early, from: 0, to: 1, t: 0, t2: 0 };
+        let (answer, _) = listed::<S>(&tables, &given, ask, 3);
+        if v.refusal.0 != 0 {
+            assert_eq!((answer[0], answer[1]), v.refusal);
+        }
     }
 }
 
@@ -275,12 +282,9 @@ pub fn deep_tables<S: Rides>() {
 
 pub fn tables_at_the_limits<S: Rides>() {
     let mut rng = Rng::new(19);
-    for day in [
-        days::city(&mut rng),
-        days::fullest(),
-        days::with_labels(8_192),
-        days::one_pair(&mut rng),
-    ] {
+    for day in
+        [days::city(&mut rng), days::fullest(), days::with_labels(8_192), days::one_pair(&mut rng)]
+    {
         let sets = own(&day).unwrap();
         some_asks::<S>(&mut rng, &sets, &day, 60);
     }
