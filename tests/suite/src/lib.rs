@@ -14,6 +14,7 @@ pub mod calls;
 pub mod check;
 pub mod journey;
 pub mod lent;
+pub mod limits;
 pub mod read;
 pub mod rides;
 pub mod room;
@@ -184,7 +185,6 @@ macro_rules! build_tests {
                 damaged_numbers,
                 counts_at_the_edges,
                 label_limit,
-                long_chain,
                 days_at_the_limits,
             ]
         );
