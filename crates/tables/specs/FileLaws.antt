@@ -10,7 +10,8 @@ use lib.ListN.{length, getD}
 use lib.Dec.{ltb}
 use borrow.Author.Tests.{le-ltb, lt-ltb}
 use Rattle.kinds.specs.declared.Label.{Label}
-use Rattle.tables.specs.File.{stopsOf, countOf, startOf, endOf, labelsOf, labelAt, follows}
+use Rattle.tables.specs.File.{stopsOf, countOf, startOf, endOf, labelsOf, labelAt}
+use Rattle.tables.specs.Judged.{follows}
 use Rattle.tables.specs.Good.{Contents}
 
 module _ (b : List ℕ) where

@@ -21,7 +21,8 @@ use Rattle.kinds.specs.declared.LabelRead.{LabelRead}
 use Rattle.kinds.specs.declared.LabelRead.the-variants as label
 use Rattle.tables.specs.declared.TablesRead.the-variants.{Good}
 use Rattle.tables.specs.Format.{formatMark, headerBytes, entryBytes}
-use Rattle.tables.specs.File.{stopsOf, ownerOf, countOf, startOf, labelsOf, placeOf, labelAt, follows, isGood, goodLabel, badLabel, badInSet, firstBad, judgedBy, judgedContents, judgedTables}
+use Rattle.tables.specs.File.{stopsOf, ownerOf, countOf, startOf, labelsOf, placeOf, labelAt}
+use Rattle.tables.specs.Judged.{follows, isGood, goodLabel, badLabel, badInSet, firstBad, judgedBy, judgedContents, judgedTables}
 use Rattle.tables.specs.Good.{After, higher, later, LabelGood, GoodEntry, GoodFile}
 
 -- ---- one label

@@ -16,12 +16,9 @@ use Rattle.tables.specs.declared.LabelsRead.{LabelsRead}
 use Rattle.tables.specs.declared.LabelsRead.the-variants.{AllGood, BadAt}
 use Rattle.tables.specs.declared.TablesRead.the-variants.{No}
 use Rattle.tables.specs.Format.{headerBytes, entryBytes}
-use Rattle.tables.specs.File.{stopsOf, ownerOf, startOf, labelsOf, placeOf, labelAt, follows, goodLabel, badLabel, firstBad, judgedBy, judgedContents}
-
--- what a loop over labels answers
-abbrev pub labelsRead : Option ℕ → LabelsRead
-labelsRead none = AllGood
-labelsRead (some k) = BadAt k
+use Rattle.tables.specs.Turns.{labelsRead, lastOf}
+use Rattle.tables.specs.File.{stopsOf, ownerOf, startOf, labelsOf, placeOf, labelAt}
+use Rattle.tables.specs.Judged.{follows, goodLabel, badLabel, firstBad, judgedBy, judgedContents}
 
 pub read-good : (o : Option ℕ) → labelsRead o ≡ AllGood → o ≡ none
 read-good none e = refl
@@ -30,10 +27,6 @@ read-good (some k) e = let z : _≡_ {A = ℕ} 0 1 = cc in absurd (omega arith)
 pub read-bad : (o : Option ℕ) (k : ℕ) → labelsRead o ≡ BadAt k → o ≡ some k
 read-bad none k e = let z : _≡_ {A = ℕ} 0 1 = cc in absurd (omega arith)
 read-bad (some m) k e = cc
-
--- a label by that which the next one has to follow; its pivot does not count
-abbrev pub lastOf : ℕ → ℕ → ℕ → Label
-lastOf h d a = record { hub = h; dep = d; arr = a; pivot = noPivot }
 
 -- the first i labels of a set were good, and the last of them says hub h, departure d, arrival a
 pub record Passed (b : List ℕ) (set i h d a : ℕ) : Type 0 where

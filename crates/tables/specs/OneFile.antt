@@ -17,7 +17,8 @@ use Rattle.kinds.specs.declared.Label.{Label}
 use Rattle.journeys.specs.Tables.{Side, outs, ins, Tables, Entry}
 use Rattle.tables.specs.declared.TablesRead.the-variants.{Good}
 use Rattle.tables.specs.Format.{headerBytes, entryBytes, labelBytes, noPivotByte}
-use Rattle.tables.specs.File.{twoAt, stopsOf, setOf, ownerOf, countOf, startOf, endOf, labelsOf, placeOf, pivotRead, labelAt, pivotOf, tablesOf, judgedTables}
+use Rattle.tables.specs.File.{twoAt, stopsOf, setOf, ownerOf, countOf, startOf, endOf, labelsOf, placeOf, pivotRead, labelAt, pivotOf, tablesOf}
+use Rattle.tables.specs.Judged.{judgedTables}
 use Rattle.tables.specs.FileLaws.{start-more}
 use Rattle.tables.specs.Good.{After, GoodFile}
 use Rattle.tables.specs.GoodLaws.{after-trans, after-irrefl, judged-good}

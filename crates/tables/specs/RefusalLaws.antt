@@ -20,7 +20,8 @@ use Rattle.kinds.specs.declared.Refusal.{Refusal}
 use Rattle.tables.specs.declared.TablesRead.{TablesRead}
 use Rattle.tables.specs.declared.TablesRead.the-variants.{Good, No}
 use Rattle.tables.specs.Format.{formatMark, headerBytes, entryBytes}
-use Rattle.tables.specs.File.{stopsOf, ownerOf, countOf, startOf, endOf, labelsOf, placeOf, labelAt, goodLabel, badLabel, badInSet, firstBad, judgedBy, judgedContents, judgedTables}
+use Rattle.tables.specs.File.{stopsOf, ownerOf, countOf, startOf, endOf, labelsOf, placeOf, labelAt}
+use Rattle.tables.specs.Judged.{goodLabel, badLabel, badInSet, firstBad, judgedBy, judgedContents, judgedTables}
 use Rattle.tables.specs.FileLaws.{start-rises, start-more}
 use Rattle.tables.specs.Good.{Room, GoodEntry}
 use Rattle.tables.specs.GoodLaws.{entry-good, good-entry}

@@ -10,8 +10,9 @@ ghost use Rattle.loops.specs.Filled.{filled};
 ghost use Rattle.kinds.specs.Limits.{mostStops, mostLabels};
 ghost use Rattle.journeys.specs.Tables.{outs, ins};
 ghost use Rattle.tables.specs.Format.{headerBytes};
-ghost use Rattle.tables.specs.File.{twoAt, stopsOf, countOf, startOf, endOf, labelsOf, placeOf, pivotRead, labelAt, tablesOf, boundsOf, follows, goodLabel, badInSet, firstBad, judgedContents, judgedTables};
-ghost use Rattle.tables.specs.JudgeLaws.{labelsRead, lastOf};
+ghost use Rattle.tables.specs.File.{twoAt, stopsOf, countOf, startOf, endOf, labelsOf, placeOf, pivotRead, labelAt, tablesOf, boundsOf};
+ghost use Rattle.tables.specs.Judged.{follows, goodLabel, badInSet, firstBad, judgedContents, judgedTables};
+ghost use Rattle.tables.specs.Turns.{labelsRead, lastOf};
 ghost use Rattle.tables.specs.Write.{putTwo, putHeader, putCount, pivotByte, putLabel};
 ghost use Rattle.tables.specs.Good.{Contents, Room};
 
@@ -27,7 +28,7 @@ const LABEL: usize = 6;
 const NO_PIVOT: u8 = 255;
 
 // The labels judged one after the other: none is bad, or the first that is.
-pub enum LabelsRead {
+enum LabelsRead {
     AllGood,
     BadAt(u32),
 }

@@ -4,7 +4,7 @@ use denote.Ref.{now}
 use borrow.Author.Tests.{not-true, not-false, le-leb, lt-leb, eq-eqb, ne-eqb}
 use Rattle.kinds.specs.KindsLaws.{stop-count}
 use Rattle.kinds.specs.Kinds.{isStopCount}
-use Rattle.tables.specs.File.{judgedTables}
+use Rattle.tables.specs.Judged.{judgedTables}
 use borrow.Author.Needs.{needs}
 use Rattle.tables.proofs.judge.Statement.{statement}
 use Rattle.tables.proofs.judge.Tie as tie

@@ -4,7 +4,8 @@ use mathlib.Core.Path.{_≡_, sym, ap, _∙_}
 use native.Mathlib.Omega.{arith}
 use borrow.Author.Tests.{not-true, not-false}
 use Rattle.loops.specs.FirstOf.{firstOf}
-use Rattle.tables.specs.JudgeLaws.{labelsRead, Passed, passed-none, passed-more, passed-bad}
+use Rattle.tables.specs.Turns.{labelsRead}
+use Rattle.tables.specs.JudgeLaws.{Passed, passed-none, passed-more, passed-bad}
 use Rattle.tables.proofs.judge_set.Statement.{statement}
 use Rattle.tables.proofs.judge_set.Tie as tie
 use Rattle.tables.proofs.judge_set.Reads as reads

@@ -1,7 +1,7 @@
 use borrow.Author.Needs.{needs}
 use mathlib.Core.Path.{sym}
 use borrow.Author.Tests.{le-ltb, lt-ltb}
-use Rattle.tables.specs.File.{follows}
+use Rattle.tables.specs.Judged.{follows}
 use Rattle.tables.specs.FileLaws.{follows-later}
 use Rattle.tables.proofs.may_follow.Statement.{statement}
 use Rattle.tables.proofs.may_follow.Tie as tie
