@@ -9,10 +9,9 @@ use lib.ListN.{length}
 use borrow.Author.Tests.{le-leb, lt-leb, eq-eqb, ne-eqb}
 use Rattle.loops.specs.FirstOf.{firstOf}
 use Rattle.loops.specs.FirstOfLaws.{first-of-none, first-of-more, first-of-here}
-use Rattle.kinds.specs.Limits.{mostLabels, noPivot}
+use Rattle.kinds.specs.Limits.{mostLabels}
 use Rattle.kinds.specs.Refusals.{tablesLength, refusal}
 use Rattle.kinds.specs.declared.Label.{Label}
-use Rattle.tables.specs.declared.LabelsRead.{LabelsRead}
 use Rattle.tables.specs.declared.LabelsRead.the-variants.{AllGood, BadAt}
 use Rattle.tables.specs.declared.TablesRead.the-variants.{No}
 use Rattle.tables.specs.Format.{headerBytes, entryBytes}

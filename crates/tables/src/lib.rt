@@ -4,7 +4,7 @@ use kinds::LabelRead;
 use kinds::Refusal;
 use kinds::Stop;
 ghost use mathlib.Core.Path.{_≡_};
-ghost use Prim.Native.Nat.{ℕ, _+_, _*_, _≤_, _<_};
+ghost use Prim.Native.Nat.{_+_, _*_, _≤_, _<_};
 ghost use lib.ListN.{length};
 ghost use Rattle.loops.specs.Filled.{filled};
 ghost use Rattle.kinds.specs.Limits.{mostStops, mostLabels};
