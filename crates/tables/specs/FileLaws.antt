@@ -1,16 +1,16 @@
 -- Laws of the file's numbers: where the sets begin and end, and what a label that is read says of the tables.
-use Prim.Native.Nat.{ℕ, zero, suc, _+_, _*_, _-_, _/_, _≤_, _<_}
-use mathlib.Core.Path.{_≡_, refl, ap, sym, subst, _∙_}
+use Prim.Native.Nat.{ℕ, zero, suc, _+_, _*_, _≤_, _<_}
+use mathlib.Core.Path.{_≡_, refl, sym, subst}
 use mathlib.Core.List.{List}
 use mathlib.Core.Logic.{⊎-elim}
 use native.Mathlib.Omega.{arith}
 use native.Mathlib.Numerals.{add-one}
 use native.Mathlib.Nat.{eq-or-lt-of-le}
-use lib.ListN.{length, getD}
 use lib.Dec.{ltb}
 use borrow.Author.Tests.{le-ltb, lt-ltb}
 use Rattle.kinds.specs.declared.Label.{Label}
-use Rattle.tables.specs.File.{stopsOf, countOf, startOf, endOf, labelsOf, labelAt, follows}
+use Rattle.tables.specs.File.{stopsOf, startOf, endOf, labelsOf}
+use Rattle.tables.specs.Judged.{follows}
 use Rattle.tables.specs.Good.{Contents}
 
 module _ (b : List ℕ) where

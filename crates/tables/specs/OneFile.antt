@@ -2,14 +2,12 @@
 use Prim.Native.Nat.{ℕ, zero, suc, _+_, _*_, _-_, _/_, _%_, _≤_, _<_}
 use mathlib.Core.Path.{_≡_, refl, ap, sym, subst, subst₂, _∙_}
 use mathlib.Core.List.{List}
-use mathlib.Core.Bool.{Bool, true, false, cond}
-use mathlib.Core.Option.{Option, none, some}
-use mathlib.Core.Logic.{_⊎_, inl, inr, ⊎-elim, _↔_}
+use mathlib.Core.Option.{Option}
+use mathlib.Core.Logic.{_⊎_, inl, inr, _↔_}
 use native.Mathlib.Omega.{arith}
 use native.Mathlib.Decide.{ℕ-discrete, decLt}
 use lib.ListN.{length, getD}
 use lib.Seq.{ext-getD}
-use lib.Dec.{eqb}
 use borrow.Author.Tests.{eq-eqb, ne-eqb}
 use Rattle.loops.specs.Rows.{Rises, Among, row-agrees, row-longer}
 use Rattle.kinds.specs.Limits.{noPivot}
@@ -17,8 +15,8 @@ use Rattle.kinds.specs.declared.Label.{Label}
 use Rattle.journeys.specs.Tables.{Side, outs, ins, Tables, Entry}
 use Rattle.tables.specs.declared.TablesRead.the-variants.{Good}
 use Rattle.tables.specs.Format.{headerBytes, entryBytes, labelBytes, noPivotByte}
-use Rattle.tables.specs.File.{twoAt, stopsOf, setOf, ownerOf, countOf, startOf, endOf, labelsOf, placeOf, pivotRead, labelAt, pivotOf, tablesOf, judgedTables}
-use Rattle.tables.specs.FileLaws.{start-more}
+use Rattle.tables.specs.File.{twoAt, stopsOf, setOf, countOf, startOf, endOf, labelsOf, placeOf, pivotRead, labelAt, pivotOf, tablesOf}
+use Rattle.tables.specs.Judged.{judgedTables}
 use Rattle.tables.specs.Good.{After, GoodFile}
 use Rattle.tables.specs.GoodLaws.{after-trans, after-irrefl, judged-good}
 use Rattle.tables.specs.TablesLaws.{pivot-is, pivot-none, pivot-some, set-below, rises}

@@ -1,10 +1,9 @@
 -- The tables of a good file are good tables, and what a label that is read says of them. Those above need no more of the bytes than this.
-use Prim.Native.Nat.{ℕ, zero, suc, _+_, _*_, _-_, _/_, _≤_, _<_}
-use mathlib.Core.Path.{_≡_, refl, ap, sym, subst, subst₂, _∙_}
+use Prim.Native.Nat.{ℕ, zero, suc, _+_, _*_, _-_, _≤_, _<_}
+use mathlib.Core.Path.{_≡_, refl, sym, subst, subst₂, _∙_}
 use mathlib.Core.List.{List}
-use mathlib.Core.Bool.{Bool, true, false}
 use mathlib.Core.Option.{Option, none, some}
-use mathlib.Core.Logic.{_⊎_, inl, inr, ⊎-elim, _≢_}
+use mathlib.Core.Logic.{_⊎_, inl, inr, ⊎-elim}
 use native.Mathlib.Omega.{arith}
 use native.Mathlib.Nat.{eq-or-lt-of-le}
 use lib.ListN.{length, getD}
@@ -13,13 +12,13 @@ use borrow.Author.Tests.{eq-eqb, ne-eqb, eqb-false}
 use Rattle.loops.specs.Chain.{past}
 use Rattle.loops.specs.Filled.{filled}
 use Rattle.loops.specs.FilledLaws.{filled-at}
-use Rattle.kinds.specs.Limits.{noPivot, lastMinute}
+use Rattle.kinds.specs.Limits.{noPivot}
 use Rattle.kinds.specs.KindsLaws.{GoodPivot}
 use Rattle.kinds.specs.declared.Label.{Label}
 use Rattle.journeys.specs.Tables.{Side, outs, ins, Tables, Entry, GoodTables}
 use Rattle.tables.specs.File.{stopsOf, setOf, ownerOf, countOf, startOf, endOf, labelsOf, labelAt, pivotOf, tablesOf}
 use Rattle.tables.specs.FileLaws.{start-more, set-within}
-use Rattle.tables.specs.Good.{After, higher, later, LabelGood, GoodEntry, GoodFile}
+use Rattle.tables.specs.Good.{After, higher, later, LabelGood, GoodFile}
 use Rattle.tables.specs.GoodLaws.{after-trans}
 
 -- ---- pivots
