@@ -1,12 +1,14 @@
 -- Laws of the lookup: one stop more or fewer, and a code put into the list.
 use Prim.Native.Nat.{ℕ, zero, suc, _+_, _*_, _-_, _≤_, _<_}
 use mathlib.Core.Path.{_≡_, refl, ap, _∙_}
-use mathlib.Core.List.{List}
+use mathlib.Core.List.{List, [], _∷_}
 use mathlib.Core.Bool.{Bool, true, false, cond}
 use native.Mathlib.Omega.{arith}
 use native.Mathlib.Decide.{ℕ-discrete}
-use lib.ListN.{length, getD, set, length-set}
-use lib.Seq.{getD-set-same, getD-set-other}
+use native.Mathlib.Nat.{add-zero}
+use lib.ListN.{length, getD}
+use Rattle.loops.specs.Put.{putFrom}
+use Rattle.loops.specs.PutLaws.{put-length, put-before, put-at}
 use Rattle.lookup.specs.Lookup.{startOf, lengthOf, hasCode, stopIn, stopNamed, putCode, Placed}
 
 pub placed-fewer : {s codes : List ℕ} {k m : ℕ} → Placed s codes k → m ≤ k → Placed s codes m
@@ -21,40 +23,33 @@ stop-turn s codes t a n none (suc k) h =
     let e : k ≡ suc k - 1 = omega arith in
     ap (λ (m : ℕ). cond (hasCode s codes t a n m) m (stopIn s codes t a n none m)) e
 
--- two numbers put in at i and after it change nothing before i
-two-other : (l : List ℕ) (i k x y : ℕ) → k < i → getD (set (set l i x) (i + 1) y) k 0 ≡ getD l k 0
-two-other l i k x y h =
-    getD-set-other (set l i x) (i + 1) k y 0 (λ (e : k ≡ i + 1). omega arith) ∙ getD-set-other l i k x 0 (λ (e : k ≡ i). omega arith)
-
 module _ (codes : List ℕ) (j start n : ℕ) where
-  pub put-length : length (putCode codes j start n) ≡ length codes
-  put-length = simp length-set
+  pub code-length : length (putCode codes j start n) ≡ length codes
+  code-length = put-length codes (2 * j) (start ∷ n ∷ [])
 
-  pub put-start : 2 * j + 2 ≤ length codes → startOf (putCode codes j start n) j ≡ start
-  put-start h =
-      getD-set-other (set codes (2 * j) start) (2 * j + 1) (2 * j) n 0 (λ (e : 2 * j ≡ 2 * j + 1). omega arith) ∙
-      getD-set-same codes (2 * j) start 0 (omega arith)
+  pub start-put : 2 * j + 2 ≤ length codes → startOf (putCode codes j start n) j ≡ start
+  start-put h = rw add-zero at (put-at codes (2 * j) (start ∷ n ∷ []) 0 (omega arith) h)
 
-  pub put-size : 2 * j + 2 ≤ length codes → lengthOf (putCode codes j start n) j ≡ n
-  put-size h = getD-set-same (set codes (2 * j) start) (2 * j + 1) n 0 (simp length-set (omega arith))
+  pub length-put : 2 * j + 2 ≤ length codes → lengthOf (putCode codes j start n) j ≡ n
+  length-put h = put-at codes (2 * j) (start ∷ n ∷ []) 1 (omega arith) h
 
   -- the codes of other stops stay
   pub start-kept : (i : ℕ) → i < j → startOf (putCode codes j start n) i ≡ startOf codes i
-  start-kept i h = two-other codes (2 * j) (2 * i) start n (omega arith)
+  start-kept i h = put-before codes (2 * j) (start ∷ n ∷ []) (2 * i) (omega arith)
 
-  pub size-kept : (i : ℕ) → i < j → lengthOf (putCode codes j start n) i ≡ lengthOf codes i
-  size-kept i h = two-other codes (2 * j) (2 * i + 1) start n (omega arith)
+  pub length-kept : (i : ℕ) → i < j → lengthOf (putCode codes j start n) i ≡ lengthOf codes i
+  length-kept i h = put-before codes (2 * j) (start ∷ n ∷ []) (2 * i + 1) (omega arith)
 
   pub placed-more : {s : List ℕ} → Placed s codes j → 2 * j + 2 ≤ length codes → start + n ≤ length s → Placed s (putCode codes j start n) (j + 1)
   placed-more {s} p h l =
       record {
-        listed = omega (arith, put-length);
+        listed = omega (arith, code-length);
         placed = λ i b. go i (ℕ-discrete i j) b;
       }
     where
       go : (i : ℕ) → Dec (i ≡ j) → i < j + 1 → startOf (putCode codes j start n) i + lengthOf (putCode codes j start n) i ≤ length s
-      go i (yes e) b = rw (e, put-start h, put-size h) l
-      go i (no e) b = rw (start-kept i (omega arith), size-kept i (omega arith)) (p .placed i (omega arith))
+      go i (yes e) b = rw (e, start-put h, length-put h) l
+      go i (no e) b = rw (start-kept i (omega arith), length-kept i (omega arith)) (p .placed i (omega arith))
 
 -- the plain search, from the last stop down
 pub record Scanning (s codes : List ℕ) (stops : ℕ) (t : List ℕ) (a n k : ℕ) : Type 0 where

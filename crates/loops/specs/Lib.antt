@@ -8,3 +8,5 @@ pub mod Every
 pub mod EveryLaws
 pub mod Decide
 pub mod Chain
+pub mod Put
+pub mod PutLaws

@@ -3,8 +3,9 @@ use Prim.Native.Nat.{ℕ, zero, suc, _+_, _*_, _-_}
 use mathlib.Core.Path.{_≡_}
 use mathlib.Core.List.{List, [], _∷_}
 use mathlib.Core.Bool.{Bool, true, false, cond}
-use lib.ListN.{length, set, replicate}
+use lib.ListN.{length, replicate}
 use lib.Dec.{ltb, leb}
+use Rattle.loops.specs.Put.{putFrom}
 use Rattle.kinds.specs.Limits.{runNumbers, runsRoom, codesRoom, mostText}
 use Rattle.kinds.specs.Refusals.{refusal, firstLine, lineShape, overLimit, roomShort}
 use Rattle.kinds.specs.declared.Code.{Code}
@@ -32,8 +33,7 @@ pub data Outcome : Type 0 where
 
 -- the five numbers of run k put in
 unfoldable pub putRun : List ℕ → ℕ → Run → List ℕ
-putRun l k r =
-    set (set (set (set (set l (runNumbers * k) (r .from)) (runNumbers * k + 1) (r .to)) (runNumbers * k + 2) (r .dep)) (runNumbers * k + 3) (r .arr)) (runNumbers * k + 4) (r .trip)
+putRun l k r = putFrom l (runNumbers * k) (r .from ∷ r .to ∷ r .dep ∷ r .arr ∷ r .trip ∷ [])
 
 -- "The stops stand in rank order: the first is stop 0"
 abbrev pub withStop : Sofar → Code → Sofar
