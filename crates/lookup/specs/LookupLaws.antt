@@ -72,3 +72,24 @@ module _ {s codes : List ℕ} {stops : ℕ} {t : List ℕ} {a n k : ℕ} (f : Sc
   scanning-end h =
       let e : k ≡ 0 = omega arith in
       rw (f .rest, e)
+
+-- where no stop is named, no stop has the code
+none-in : (s codes t : List ℕ) (a n none k : ℕ) → k ≤ none → none ≤ stopIn s codes t a n none k → (i : ℕ) → i < k → hasCode s codes t a n i ≡ false
+unfolding stopIn
+none-in s codes t a n none zero le h i lt = absurd (omega arith)
+none-in s codes t a n none (suc k) le h i lt = go (λ g l. none-in s codes t a n none k (omega arith) g i l) (hasCode s codes t a n k) refl h (ℕ-discrete i k)
+  where
+    go : (none ≤ stopIn s codes t a n none k → i < k → hasCode s codes t a n i ≡ false) →
+        (b : Bool) → hasCode s codes t a n k ≡ b → none ≤ cond b k (stopIn s codes t a n none k) → Dec (i ≡ k) → hasCode s codes t a n i ≡ false
+    go below true e g d = absurd (omega arith)
+    go below false e g (yes d) = rw d e
+    go below false e g (no d) = below g (omega arith)
+
+pub named-none : (s codes : List ℕ) (stops : ℕ) (t : List ℕ) (a n : ℕ) → stops ≤ stopNamed s codes stops t a n → (i : ℕ) → i < stops → hasCode s codes t a n i ≡ false
+unfolding stopNamed
+named-none s codes stops t a n h i lt = none-in s codes t a n stops stops (omega arith) h i lt
+
+-- a code put in changes no other stop's
+pub has-kept : (s codes t : List ℕ) (a m j start n i : ℕ) → i < j → hasCode s (putCode codes j start n) t a m i ≡ hasCode s codes t a m i
+unfolding hasCode
+has-kept s codes t a m j start n i h = rw (start-kept codes j start n i h, length-kept codes j start n i h)
