@@ -11,8 +11,8 @@ use lib.Seq.{getD-set-same, getD-set-other}
 use lib.Dec.{eqb}
 use borrow.Author.Tests.{eq-eqb, ne-eqb}
 use Rattle.kinds.specs.Limits.{mostStops}
-use Rattle.lookup.specs.Lookup.{startOf, lengthOf, putCode, Placed}
-use Rattle.lookup.specs.LookupLaws.{start-put, length-put, start-kept, length-kept, placed-more}
+use Rattle.lookup.specs.Lookup.{startOf, lengthOf, putCode}
+use Rattle.lookup.specs.LookupLaws.{Placed, start-put, length-put, start-kept, length-kept, placed-more}
 use Rattle.lookup.specs.Index.{buckets, bucketOf, bucketAt, lastIn, Indexed}
 
 module _ (s codes : List ℕ) (j start n : ℕ) where

@@ -45,16 +45,16 @@ abbrev pub withRun : Sofar → Run → Sofar
 withRun b r =
     record { line = b .line + 1; stops = b .stops; runs = b .runs + 1; codes = b .codes; numbers = putRun (b .numbers) (b .runs) r }
 
--- What a line leads to; its LF stands at e, and go reads on. "then "end" and nothing after": bytes after it are refusal 2 at the line where they are met.
+-- What a line leads to; its LF stands at e, and go reads on. "bytes after "end" are refusal 2, at the line where they are met".
 abbrev pub next : (ℕ → Sofar → Outcome) → List ℕ → ℕ → Sofar → Line → Outcome
 next go s e b (line.Stop c) = go (e + 1) (withStop b c)
 next go s e b (line.Run r) = go (e + 1) (withRun b r)
 next go s e b line.End = cond (ltb (e + 1) (length s)) (bad lineShape (b .line + 1)) (whole b)
 next go s e b (line.Bad n) = bad n (b .line)
 
--- The lines from a on; f is at least the number of bytes that are left, of which each line takes one or more.
--- "a line without LF" is refusal 2 "at the line where [it is] met and before any other refusal of that line";
--- a missing "end" is such a line, of no bytes, after the last.
+-- The lines from a on. f is at least the number of bytes that are left (each line takes one or more), so at zero none is.
+-- "a line without LF [is] refusal 2, at the line where [it is] met and before any other refusal of that line; a missing "end" is at the
+-- line after the last": there a line of no bytes has no LF.
 unfoldable pub readFrom : ℕ → List ℕ → ℕ → Sofar → Outcome
 readFrom zero s a b = bad lineShape (b .line)
 readFrom (suc f) s a b =

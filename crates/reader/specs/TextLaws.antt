@@ -17,8 +17,8 @@ use Rattle.kinds.specs.declared.Code.{Code}
 use Rattle.kinds.specs.declared.Run.{Run}
 use Rattle.words.specs.Words.{lf, seek, beginsB, isCode}
 use Rattle.words.specs.WordsLaws.{seek-low, seek-high, begins-long}
-use Rattle.lookup.specs.Lookup.{startOf, lengthOf, hasCode, stopNamed, putCode, Placed}
-use Rattle.lookup.specs.LookupLaws.{named-none, has-kept, code-length, start-put, length-put, start-kept, length-kept, placed-more}
+use Rattle.lookup.specs.Lookup.{startOf, lengthOf, hasCode, stopNamed, putCode}
+use Rattle.lookup.specs.LookupLaws.{Placed, named-none, has-kept, code-length, start-put, length-put, start-kept, length-kept, placed-more}
 use Rattle.lines.specs.Lines.{lineOf}
 use Rattle.lines.specs.LinesLaws.{FineStop, FineRun, FineLine, line-fine}
 use Rattle.lines.specs.declared.Line.{Line}
