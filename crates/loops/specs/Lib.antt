@@ -13,3 +13,7 @@ pub mod FirstOf
 pub mod FirstOfLaws
 pub mod Filled
 pub mod FilledLaws
+pub mod Tells
+pub mod TellsLaws
+pub mod Fails
+pub mod FailsLaws

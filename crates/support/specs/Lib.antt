@@ -1,0 +1,4 @@
+pub mod Ready
+pub mod Search
+pub mod SearchLaws
+pub mod SupportLaws
