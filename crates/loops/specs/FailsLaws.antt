@@ -11,6 +11,9 @@ pub holds-none : {P : ℕ → Type 0} {f : ℕ} → HoldsTo P f f
 holds-none = record { low = omega arith; each = λ k le lt. absurd (omega arith) }
 
 module _ {P : ℕ → Type 0} {f k : ℕ} where
+  pub holds-start : k ≡ f → HoldsTo P f k
+  holds-start e = record { low = omega arith; each = λ j le lt. absurd (omega arith) }
+
   pub holds-more : HoldsTo P f k → P k → HoldsTo P f (k + 1)
   holds-more h p =
       record {
@@ -30,6 +33,13 @@ holds-on {P} {f} {g} {r} a b = record { low = omega (arith, a .low, b .low); eac
   where
     each′ : (k : ℕ) → f ≤ k → k < r → P k
     each′ k le lt = elim (decLt k g) [ yes l ↦ a .each k le l | no l ↦ b .each k (omega arith) lt ]
+
+-- the first that fails in a part that ends before the whole; a part in which none fails
+pub fails-on : {P : ℕ → Type 0} {f g to all r : ℕ} → HoldsTo P f g → FailsAt P g to r → r < to → to ≤ all → FailsAt P f all r
+fails-on h a lt le = record { held = holds-on h (a .held); high = omega arith; here = λ _. a .here lt }
+
+pub fails-none : {P : ℕ → Type 0} {f to r : ℕ} → FailsAt P f to r → to ≤ r → HoldsTo P f to
+fails-none {P} {f} {to} {r} a le = subst (HoldsTo P f) (omega (arith, a .high)) (a .held)
 
 -- no second number is the first that fails: a contract by `FailsAt` determines the result
 pub fails-one : {P : ℕ → Type 0} {f to r s : ℕ} → FailsAt P f to r → FailsAt P f to s → r ≡ s

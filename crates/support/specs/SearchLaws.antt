@@ -14,7 +14,7 @@ use Rattle.loops.specs.First.{FirstAt}
 use Rattle.kinds.specs.declared.Label.{Label}
 use Rattle.journeys.specs.Tables.{Side, outs, ins, Tables, LabelAt, of-out, of-in}
 use Rattle.journeys.specs.SketchLaws.{entry-at}
-use Rattle.tables.specs.File.{tablesOf, labelsOf, labelAt, startOf, setOf}
+use Rattle.tables.specs.File.{tablesOf, labelsOf, labelAt, startOf, endOf, setOf}
 use Rattle.tables.specs.FileLaws.{start-more, start-rises}
 use Rattle.tables.specs.TablesLaws.{tables-stops, tables-start, tables-end, tables-within, good-tables}
 use Rattle.support.specs.declared.Stretch.{Stretch}
@@ -28,6 +28,12 @@ use Rattle.support.specs.Search.{stretchOf, Covers, At, Wanted, atB, wan
 module _ {b : List ℕ} {n : ℕ} {s : List ℕ} (r : Ready b n s) where
   pub ready-stops : tablesOf b .stops ≡ n
   ready-stops = tables-stops b ∙ r .file .room .contents .stops
+
+  pub ready-start : {set k : ℕ} → set ≤ 2 * n → k ≡ getD s set 0 → k ≡ startOf b set
+  ready-start lt e = e ∙ r .starts _ lt
+
+  pub ready-end : {set k : ℕ} → set < 2 * n → k ≡ getD s (set + 1) 0 → k ≡ endOf b set
+  ready-end {set} lt e = e ∙ r .starts (set + 1) (omega arith) ∙ start-more b set
 
   pub set-start : (side : Side) (o : ℕ) → o < n → getD s (setOf side o) 0 ≡ tablesOf b .start side o
   set-start outs o lt = r .starts (2 * o) (omega arith) ∙ sym (tables-start b outs o)

@@ -5,12 +5,16 @@ ghost use mathlib.Core.Path.{_≡_};
 ghost use Prim.Native.Nat.{ℕ, _+_, _*_, _≤_, _<_};
 ghost use lib.ListN.{length, getD};
 ghost use Rattle.loops.specs.First.{FirstAt};
+ghost use Rattle.loops.specs.Fails.{FailsAt};
 ghost use Rattle.loops.specs.Tells.{Tells};
-ghost use Rattle.journeys.specs.Check.{Halves};
-ghost use Rattle.tables.specs.File.{tablesOf, labelsOf};
+ghost use Rattle.kinds.specs.Limits.{mostStops};
+ghost use Rattle.journeys.specs.Check.{Halves, SupportedAt};
+ghost use Rattle.tables.specs.File.{tablesOf, labelsOf, startOf, endOf};
 ghost use Rattle.tables.specs.Good.{Room};
+ghost use Rattle.timetable.specs.Numbers.{serviceOf, GoodNumbers};
 ghost use Rattle.support.specs.Ready.{Ready};
 ghost use Rattle.support.specs.Search.{stretchOf, Wanted, wantedB};
+ghost use Rattle.support.specs.Ways.{wayOf, WayGood, IsRun, RunFor, WaySupported};
 
 // A label by its ends, its minutes and its pivot.
 pub struct Way {
@@ -117,4 +121,136 @@ fn has_halves(tables: &[u8], n: u16, starts: &[u16], u: u16, w: u16, v: u16, d: 
         return true;
     }
     false
+}
+
+fn is_run(run: Run, w: Way) -> bool
+    ensures { λ r. ⌜ Tells (IsRun run w) r ⌝ }
+{
+    if run.from != w.from {
+        return false;
+    }
+    if run.to != w.to {
+        return false;
+    }
+    if run.dep != w.dep {
+        return false;
+    }
+    if run.arr != w.arr {
+        return false;
+    }
+    true
+}
+
+// Whether a run has the ends and the minutes.
+fn has_run(n: u16, runs: &[u32], count: usize, w: Way) -> bool
+    requires { ⌜ GoodNumbers n count (now runs) ⌝ }
+    ensures { λ r. ⌜ Tells (RunFor (serviceOf n count (now (runs .entry))) w) r ⌝ }
+{
+    let mut i = 0;
+    while i < count {
+        let run = timetable::run_at(runs, i);
+        if is_run(run, w) {
+            return true;
+        }
+        i += 1;
+    }
+    false
+}
+
+fn is_supported(tables: &[u8], n: u16, starts: &[u16], runs: &[u32], count: usize, w: Way) -> bool
+    requires { ⌜ Ready (now tables) n (now starts) ⌝ }
+    requires { ⌜ GoodNumbers n count (now runs) ⌝ }
+    requires { ⌜ WayGood n w ⌝ }
+    ensures { λ r. ⌜ Tells (WaySupported (serviceOf n count (now (runs .entry))) (tablesOf (now (tables .entry))) w) r ⌝ }
+{
+    if w.pivot == Label::NO_PIVOT {
+        return has_run(n, runs, count, w);
+    }
+    has_halves(tables, n, starts, w.from, w.pivot, w.to, w.dep, w.arr)
+}
+
+// Label l of a set, by its ends.
+fn way_of(set: usize, l: Label) -> Way
+    requires { ⌜ set < 2 * mostStops ⌝ }
+    ensures { λ r. ⌜ r ≡ wayOf set l ⌝ }
+{
+    let owner = (set / 2) as u16;
+    if set % 2 == 0 {
+        return Way {
+            from: owner,
+            to: l.hub,
+            dep: l.dep,
+            arr: l.arr,
+            pivot: l.pivot,
+        };
+    }
+    Way {
+        from: l.hub,
+        to: owner,
+        dep: l.dep,
+        arr: l.arr,
+        pivot: l.pivot,
+    }
+}
+
+// Whether label k, which stands in this set, is supported.
+fn supported_at(
+    tables: &[u8],
+    n: u16,
+    starts: &[u16],
+    runs: &[u32],
+    count: usize,
+    set: usize,
+    k: usize,
+) -> bool
+    requires { ⌜ Ready (now tables) n (now starts) ⌝ }
+    requires { ⌜ GoodNumbers n count (now runs) ⌝ }
+    requires { ⌜ (set < 2 * n) × (startOf (now tables) set ≤ k) × (k < endOf (now tables) set) ⌝ }
+    ensures { λ r. ⌜ Tells (SupportedAt (serviceOf n count (now (runs .entry))) (tablesOf (now (tables .entry))) k) r ⌝ }
+{
+    let l = tables::label_at(tables, n, k);
+    is_supported(tables, n, starts, runs, count, way_of(set, l))
+}
+
+// The first label of a set that is not supported, or the set's end.
+fn first_of_set(
+    tables: &[u8],
+    n: u16,
+    starts: &[u16],
+    runs: &[u32],
+    count: usize,
+    set: usize,
+) -> usize
+    requires { ⌜ Ready (now tables) n (now starts) ⌝ }
+    requires { ⌜ GoodNumbers n count (now runs) ⌝ }
+    requires { ⌜ set < 2 * n ⌝ }
+    ensures { λ r. ⌜ FailsAt (SupportedAt (serviceOf n count (now (runs .entry))) (tablesOf (now (tables .entry)))) (startOf (now (tables .entry)) set) (endOf (now (tables .entry)) set) r ⌝ }
+{
+    let end = start_at(starts, set + 1);
+    let mut k = start_at(starts, set);
+    while k < end {
+        if !supported_at(tables, n, starts, runs, count, set, k) {
+            return k;
+        }
+        k += 1;
+    }
+    k
+}
+
+// The first label of all that is not supported, or the number of labels.
+pub fn first_unsupported(tables: &[u8], n: u16, starts: &[u16], runs: &[u32], count: usize) -> usize
+    requires { ⌜ Ready (now tables) n (now starts) ⌝ }
+    requires { ⌜ GoodNumbers n count (now runs) ⌝ }
+    ensures { λ r. ⌜ FailsAt (SupportedAt (serviceOf n count (now (runs .entry))) (tablesOf (now (tables .entry)))) 0 (labelsOf (now (tables .entry))) r ⌝ }
+{
+    let sets = 2 * (n as usize);
+    let mut set = 0;
+    while set < sets {
+        let k = first_of_set(tables, n, starts, runs, count, set);
+        if k < start_at(starts, set + 1) {
+            return k;
+        }
+        set += 1;
+    }
+    start_at(starts, sets)
 }

@@ -1,4 +1,5 @@
 use native.Mathlib.Omega.{arith}
+use Rattle.loops.specs.TellsLaws.{tells-yes, tells-no}
 use Rattle.support.specs.Search.{Covers}
 use Rattle.support.specs.SearchLaws.{covers}
 use Rattle.support.specs.SupportLaws.{no-first, no-second, halves-meet, halves-miss}
@@ -35,7 +36,7 @@ find-requires c κs =
 returns : tie.Need-returns
 returns c =
     let f = c .before .before in
-    no-first (first-covers (f .before)) (f .find .ensures) _ _ (c .if1 .taken)
+    tells-no (no-first (first-covers (f .before)) (f .find .ensures) _ _ (c .if1 .taken))
 
 between-requires-2 : tie.Need-between-requires-2
 between-requires-2 c κs = search needs
@@ -48,7 +49,7 @@ find-requires-2 c κs =
 returns-2 : tie.Need-returns-2
 returns-2 c =
     let f = c .before .before in
-    no-second (second-covers (f .before)) (f .find2 .ensures) _ _ (c .if2 .taken)
+    tells-no (no-second (second-covers (f .before)) (f .find2 .ensures) _ _ (c .if2 .taken))
 
 label-at-requires : tie.Need-label-at-requires
 label-at-requires c κs =
@@ -69,8 +70,8 @@ returns-3 c =
     let f₂ = j .before .before in
     let i = f₂ .before .before in
     let f₁ = i .before .before in
-    halves-meet (f₁ .before .before .before .before .pre .0 .file) (first-covers (f₁ .before)) (f₁ .find .ensures) (i .if1 .left) (y .before .label-at .ensures)
-    (second-covers (f₂ .before)) (f₂ .find2 .ensures) (j .if2 .left) (y .label-at2 .ensures) (c .if3 .taken)
+    tells-yes (halves-meet (f₁ .before .before .before .before .pre .0 .file) (first-covers (f₁ .before)) (f₁ .find .ensures) (i .if1 .left) (y .before .label-at .ensures)
+    (second-covers (f₂ .before)) (f₂ .find2 .ensures) (j .if2 .left) (y .label-at2 .ensures) (c .if3 .taken))
 
 returns-4 : tie.Need-returns-4
 returns-4 c =
@@ -79,8 +80,8 @@ returns-4 c =
     let f₂ = j .before .before in
     let i = f₂ .before .before in
     let f₁ = i .before .before in
-    halves-miss (f₁ .before .before .before .before .pre .0 .file) (first-covers (f₁ .before)) (f₁ .find .ensures) (i .if1 .left) (y .before .label-at .ensures)
-    (second-covers (f₂ .before)) (f₂ .find2 .ensures) (j .if2 .left) (y .label-at2 .ensures) (c .if3 .left)
+    tells-no (halves-miss (f₁ .before .before .before .before .pre .0 .file) (first-covers (f₁ .before)) (f₁ .find .ensures) (i .if1 .left) (y .before .label-at .ensures)
+    (second-covers (f₂ .before)) (f₂ .find2 .ensures) (j .if2 .left) (y .label-at2 .ensures) (c .if3 .left))
 
 pub has-halves-spec : {M : Type 1} → statement M
 has-halves-spec =
