@@ -1,0 +1,1 @@
+// The check of tables from anywhere against a timetable's numbers.
