@@ -73,8 +73,10 @@ module _ {T : Tables} (G : GoodTables T) {u v d e : ℕ} {R : ℕ → ℕ} (othe
 module _ {T : Tables} (G : GoodTables T) {u x d a e : ℕ} where
   -- "for v = x, the tables' early(u, x, d) exists and arrives by a"
   pub gap-here : Early T u x d e → a ≤ lastMinute → (e ≤ a) ↔ NoGap T u x d a x
-  gap-here E last = (λ h. no-gap-iff G .1 (record { here = λ _. wider (E .real (omega arith)) (le-refl d) h; on = λ n. absurd (n refl) }),
-      λ g. let w = no-gap-iff G .0 g .here refl in omega (arith, E .low (w .has) (w .after), w .before))
+  gap-here E last = (
+    λ h. no-gap-iff G .1 (record { here = λ _. wider (E .real (omega arith)) (le-refl d) h; on = λ n. absurd (n refl) }),
+    λ g. let w = no-gap-iff G .0 g .here refl in omega (arith, E .low (w .has) (w .after), w .before),
+  )
 
   -- "for another v, if the tables' early(x, v, a) exists, then early(u, v, d) exists and arrives no later"
   pub gap-on : {v f : ℕ} → v ≢ x → Early T u v d e → Early T x v a f → (e ≤ f) ↔ NoGap T u x d a v

@@ -1,2 +1,4 @@
 pub mod Early
 pub mod EarlyLaws
+pub mod Steps
+pub mod StepLaws
