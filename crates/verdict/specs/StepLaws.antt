@@ -20,7 +20,7 @@ use Rattle.tables.specs.File.{tablesOf, labelAt}
 use Rattle.tables.specs.Good.{GoodFile}
 use Rattle.tables.specs.TablesLaws.{Says, says, tables-stops, good-tables}
 use Rattle.verdict.specs.Early.{unreached, OutBy, Reached, InBy, Arrival}
-use Rattle.verdict.specs.Steps.{relaxed, sooner, fresh}
+use Rattle.verdict.specs.Steps.{relaxed, soonerOf, fresh}
 
 -- ---- a label of a set, as it was read
 
@@ -139,3 +139,48 @@ module _ {T : Tables} (G : GoodTables T) {u d k : ℕ} (best : List ℕ) {l : La
       go true y f₁ f₂ f₃ f₄ = stays (λ le. absurd (omega (arith, f₁ refl)))
       go false true f₁ f₂ f₃ f₄ = stays (λ _. f₃ refl)
       go false false f₁ f₂ f₃ f₄ = changes (f₂ refl) (f₄ refl)
+
+-- ---- an arrival at v
+
+pub arrival-none : (T : Tables) (R : ℕ → ℕ) (v : ℕ) {e : ℕ} → e ≡ R v → Arrival T R v (T .start ins v) e
+arrival-none T R v e = record { own = omega arith; low = λ x m h. absurd (omega (arith, x .low)); real = inl e }
+
+-- one in-label more, k, read as l
+module _ {T : Tables} (R : ℕ → ℕ) {v k e : ℕ} {l : Label} (says : Says T k l) (owner : v < T .stops) (low : T .start ins v ≤ k) (high : k < T .end ins v) (a : Arrival T R v k e) where
+  this : Entry T ins k v (T .hub k) (T .dep k) (T .arr k) (T .pivot k)
+  this = entry-at owner low high
+
+  own-low : {f : ℕ} → f ≤ e → (R (l .hub) ≤ l .dep → f ≤ l .arr) → {j h c b : ℕ} {p : Option ℕ} → Entry T ins j v h c b p → j < k + 1 → R h ≤ c → f ≤ b
+  own-low {f} le g {j} {h} {c} {b} x lt m =
+      ⊎-elim (λ (q : j ≡ k).
+      let z = one-entry (sym q) this x in
+      omega (arith, g (omega (arith, subst (λ (y : ℕ). R y ≤ c) (sym (z .0) ∙ says .hub) m, z .1, says .dep)), z .2, says .arr))
+      (λ (s : j < k). omega (arith, a .low x s m)) (eq-or-lt-of-le (omega arith))
+
+  keeps : (R (l .hub) ≤ l .dep → e ≤ l .arr) → Arrival T R v (k + 1) e
+  keeps g = record { own = a .own; low = own-low (omega arith) g; real = a .real }
+
+  betters : R (l .hub) ≤ l .dep → l .arr < e → Arrival T R v (k + 1) (l .arr)
+  betters m lt =
+      record {
+        own = omega (arith, a .own);
+        low = own-low (omega arith) (λ _. omega arith);
+        real = inr (record {
+          number = k;
+          hub = T .hub k;
+          dep = T .dep k;
+          pivot = T .pivot k;
+          label = subst (λ (y : ℕ). Entry T ins k v (T .hub k) (T .dep k) y (T .pivot k)) (says .arr) this;
+          met = subst (λ (y : ℕ). R y ≤ T .dep k) (sym (says .hub)) (omega (arith, says .dep));
+        });
+      }
+
+  pub arrival-more : Arrival T R v (k + 1) (soonerOf e (R (l .hub)) l)
+  unfolding soonerOf
+  arrival-more = go (ltb (l .dep) (R (l .hub))) (leb e (l .arr)) (ltb-true _ _) (ltb-false _ _) (leb-true _ _) (leb-false _ _)
+    where
+      go : (x y : Bool) → (x ≡ true → l .dep < R (l .hub)) → (x ≡ false → R (l .hub) ≤ l .dep) → (y ≡ true → e ≤ l .arr) → (y ≡ false → l .arr < e) →
+          Arrival T R v (k + 1) (cond x e (cond y e (l .arr)))
+      go true y f₁ f₂ f₃ f₄ = keeps (λ m. absurd (omega (arith, f₁ refl)))
+      go false true f₁ f₂ f₃ f₄ = keeps (λ _. f₃ refl)
+      go false false f₁ f₂ f₃ f₄ = betters (f₂ refl) (f₄ refl)

@@ -13,8 +13,8 @@ unfoldable pub relaxed : List ℕ → ℕ → Label → List ℕ
 relaxed best d l = cond (ltb (l .dep) d) best (cond (leb (getD best (l .hub) 0) (l .arr)) best (set best (l .hub) (l .arr)))
 
 -- an in-label l whose hub is reached at m
-unfoldable pub sooner : ℕ → ℕ → Label → ℕ
-sooner e m l = cond (ltb (l .dep) m) e (cond (leb e (l .arr)) e (l .arr))
+unfoldable pub soonerOf : ℕ → ℕ → Label → ℕ
+soonerOf e m l = cond (ltb (l .dep) m) e (cond (leb e (l .arr)) e (l .arr))
 
 -- no hub reached yet, and u at d
 unfoldable pub fresh : ℕ → ℕ → List ℕ

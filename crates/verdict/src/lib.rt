@@ -10,8 +10,8 @@ ghost use Rattle.kinds.specs.Limits.{mostStops, lastMinute};
 ghost use Rattle.journeys.specs.Tables.{outs, ins};
 ghost use Rattle.tables.specs.File.{tablesOf};
 ghost use Rattle.support.specs.Ready.{Ready};
-ghost use Rattle.verdict.specs.Early.{Reached};
-ghost use Rattle.verdict.specs.Steps.{relaxed};
+ghost use Rattle.verdict.specs.Early.{Reached, Arrival};
+ghost use Rattle.verdict.specs.Steps.{relaxed, soonerOf};
 
 // A minute past all others: not reached.
 const UNREACHED: u16 = 65535;
@@ -48,4 +48,53 @@ fn reach(tables: &[u8], n: u16, starts: &[u16], u: u16, d: u16) -> [u16; Stop::M
         k += 1;
     }
     reached
+}
+
+// When one can be at a stop, by two arrays of the hubs.
+struct Both {
+    near: u16,
+    far: u16,
+}
+
+// One in-label more, whose hub is reached at m: it counts where it leaves then or later, and the sooner arrival stays.
+fn sooner(e: u16, m: u16, l: Label) -> u16
+    ensures { λ r. ⌜ r ≡ soonerOf e m l ⌝ }
+{
+    if l.dep < m {
+        return e;
+    }
+    if e <= l.arr {
+        return e;
+    }
+    l.arr
+}
+
+// One pass over the in-labels of v.
+fn arrivals(
+    tables: &[u8],
+    n: u16,
+    starts: &[u16],
+    v: u16,
+    near: &[u16; Stop::MOST],
+    far: &[u16; Stop::MOST],
+) -> Both
+    requires { ⌜ Ready (now tables) n (now starts) ⌝ }
+    requires { ⌜ v < n ⌝ }
+    ensures { λ r. ⌜ Arrival (tablesOf (now (tables .entry))) (λ h. getD (now (near .entry)) h 0) v (tablesOf (now (tables .entry)) .end ins v) (r .near) ⌝ }
+    ensures { λ r. ⌜ Arrival (tablesOf (now (tables .entry))) (λ h. getD (now (far .entry)) h 0) v (tablesOf (now (tables .entry)) .end ins v) (r .far) ⌝ }
+{
+    let at = v as usize;
+    let set = 2 * at + 1;
+    let end = support::start_at(starts, set + 1);
+    let mut e = near[at];
+    let mut f = far[at];
+    let mut k = support::start_at(starts, set);
+    while k < end {
+        let l = tables::label_at(tables, n, k);
+        let hub = l.hub as usize;
+        e = sooner(e, near[hub], l);
+        f = sooner(f, far[hub], l);
+        k += 1;
+    }
+    Both { near: e, far: f }
 }
