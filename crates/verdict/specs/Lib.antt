@@ -2,3 +2,5 @@ pub mod Early
 pub mod EarlyLaws
 pub mod Steps
 pub mod StepLaws
+pub mod Gaps
+pub mod GapLaws

@@ -6,12 +6,15 @@ use kinds::Stop;
 ghost use mathlib.Core.Path.{_≡_};
 ghost use Prim.Native.Nat.{ℕ, _+_, _*_, _≤_, _<_};
 ghost use lib.ListN.{length, getD};
+ghost use Rattle.loops.specs.Tells.{Tells};
 ghost use Rattle.kinds.specs.Limits.{mostStops, lastMinute};
 ghost use Rattle.journeys.specs.Tables.{outs, ins};
 ghost use Rattle.tables.specs.File.{tablesOf};
+ghost use Rattle.timetable.specs.Numbers.{serviceOf, GoodNumbers};
 ghost use Rattle.support.specs.Ready.{Ready};
 ghost use Rattle.verdict.specs.Early.{Reached, Arrival};
 ghost use Rattle.verdict.specs.Steps.{relaxed, soonerOf};
+ghost use Rattle.verdict.specs.Gaps.{NoGapOf, Compared, GapIn};
 
 // A minute past all others: not reached.
 const UNREACHED: u16 = 65535;
@@ -97,4 +100,61 @@ fn arrivals(
         k += 1;
     }
     Both { near: e, far: f }
+}
+
+// Whether there is no gap at a run and a stop.
+fn no_gap(
+    tables: &[u8],
+    n: u16,
+    starts: &[u16],
+    run: Run,
+    v: u16,
+    near: &[u16; Stop::MOST],
+    far: &[u16; Stop::MOST],
+) -> bool
+    requires { ⌜ Compared (now tables) n (now starts) run (now near) (now far) ⌝ }
+    requires { ⌜ v < n ⌝ }
+    ensures { λ r. ⌜ Tells (NoGapOf (tablesOf (now (tables .entry))) run v) r ⌝ }
+{
+    if v == run.from {
+        return true;
+    }
+    let both = arrivals(tables, n, starts, v, near, far);
+    if v == run.to {
+        return both.near <= run.arr;
+    }
+    both.near <= both.far
+}
+
+// The first gap: its run and its stop.
+enum Gap {
+    At(u32, u32),
+    Nothing,
+}
+
+// The runs by number and, within a run, the stops by number; the first gap ends the search.
+fn first_gap(tables: &[u8], n: u16, starts: &[u16], runs: &[u32], count: usize) -> Gap
+    requires { ⌜ Ready (now tables) n (now starts) ⌝ }
+    requires { ⌜ GoodNumbers n count (now runs) ⌝ }
+    ensures { λ r. ⌜ GapIn (serviceOf n count (now (runs .entry))) (tablesOf (now (tables .entry))) r ⌝ }
+{
+    let mut i = 0;
+    let mut v = 0;
+    'search: while i < count {
+        let run = timetable::run_at(runs, i);
+        let near = reach(tables, n, starts, run.from, run.dep);
+        let far = reach(tables, n, starts, run.to, run.arr);
+        v = 0;
+        while v < n {
+            if !no_gap(tables, n, starts, run, v, &near, &far) {
+                break 'search;
+            }
+            v += 1;
+        }
+        i += 1;
+    }
+    if i < count {
+        return Gap::At(i as u32, v as u32);
+    }
+    Gap::Nothing
 }
