@@ -4,3 +4,5 @@ pub mod Steps
 pub mod StepLaws
 pub mod Gaps
 pub mod GapLaws
+pub mod Verdict
+pub mod VerdictLaws

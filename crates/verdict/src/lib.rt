@@ -3,18 +3,22 @@ use kinds::Label;
 use kinds::Refusal;
 use kinds::Run;
 use kinds::Stop;
+use tables::TablesRead;
+use timetable::Judged;
 ghost use mathlib.Core.Path.{_≡_};
 ghost use Prim.Native.Nat.{ℕ, _+_, _*_, _≤_, _<_};
 ghost use lib.ListN.{length, getD};
+ghost use Rattle.loops.specs.Zero.{zeros};
 ghost use Rattle.loops.specs.Tells.{Tells};
 ghost use Rattle.kinds.specs.Limits.{mostStops, lastMinute};
 ghost use Rattle.journeys.specs.Tables.{outs, ins};
-ghost use Rattle.tables.specs.File.{tablesOf};
-ghost use Rattle.timetable.specs.Numbers.{serviceOf, GoodNumbers};
+ghost use Rattle.tables.specs.File.{tablesOf, judgedTables};
+ghost use Rattle.timetable.specs.Numbers.{serviceOf, judgedOf, GoodNumbers};
 ghost use Rattle.support.specs.Ready.{Ready};
 ghost use Rattle.verdict.specs.Early.{Reached, Arrival};
 ghost use Rattle.verdict.specs.Steps.{relaxed, soonerOf};
 ghost use Rattle.verdict.specs.Gaps.{NoGapOf, Compared, GapIn};
+ghost use Rattle.verdict.specs.Verdict.{checkRoom, judgedBoth, Outcome, Checked};
 
 // A minute past all others: not reached.
 const UNREACHED: u16 = 65535;
@@ -157,4 +161,92 @@ fn first_gap(tables: &[u8], n: u16, starts: &[u16], runs: &[u32], count: usize) 
         return Gap::At(i as u32, v as u32);
     }
     Gap::Nothing
+}
+
+// What the check answers.
+pub enum Verdict {
+    Accepted,
+    No(Refusal),
+}
+
+impl Verdict {
+    // The working room of a check, in numbers of two bytes: the starts of all sets, and the number of labels.
+    pub const ROOM: usize = 2 * Stop::MOST + 1;
+
+    pub fn room() -> usize
+        ensures { λ r. do ⌜ r ≡ (← ⟦Verdict::ROOM⟧ .entry) ⌝ }
+        ensures { λ r. ⌜ r ≡ checkRoom ⌝ }
+    {
+        Verdict::ROOM
+    }
+}
+
+// 9, 10 and 11, then the timetable's, then 21; or the stop count.
+fn judge(tables: &[u8], stops: u32, run_count: u32, runs: &[u32], lent: usize) -> TablesRead
+    ensures { λ r. ⌜ r ≡ judgedBoth (judgedTables (now (tables .entry))) (judgedOf stops «run_count» (now (runs .entry)) lent checkRoom) stops ⌝ }
+{
+    let read = tables::judge(tables);
+    match read {
+        TablesRead::No(x) => {
+            return TablesRead::No(x);
+        }
+        TablesRead::Good(n) => {
+            let judged = timetable::judge(stops, run_count, runs, lent, Verdict::ROOM);
+            match judged {
+                Judged::No(x) => {
+                    return TablesRead::No(x);
+                }
+                Judged::Good => {}
+            }
+            if (n as u32) != stops {
+                return TablesRead::No(Refusal::new(Refusal::STOPS_DIFFER, 0));
+            }
+            TablesRead::Good(n)
+        }
+    }
+}
+
+// Labels first, then runs and stops.
+fn compare(tables: &[u8], n: u16, starts: &[u16], runs: &[u32], count: usize) -> Verdict
+    requires { ⌜ Ready (now tables) n (now starts) ⌝ }
+    requires { ⌜ GoodNumbers n count (now runs) ⌝ }
+    ensures { λ r. ⌜ Outcome (serviceOf n count (now (runs .entry))) (tablesOf (now (tables .entry))) r ⌝ }
+{
+    let k = support::first_unsupported(tables, n, starts, runs, count);
+    if k < support::start_at(starts, 2 * (n as usize)) {
+        return Verdict::No(Refusal::new(Refusal::UNSUPPORTED, k as u32));
+    }
+    let gap = first_gap(tables, n, starts, runs, count);
+    match gap {
+        Gap::At(i, v) => Verdict::No(Refusal {
+            number: Refusal::GAP,
+            place: i,
+            stop: v,
+        }),
+        Gap::Nothing => Verdict::Accepted,
+    }
+}
+
+// The answer; the working room is left as it was used.
+fn answer(tables: &[u8], stops: u32, run_count: u32, runs: &[u32], work: &mut [u16]) -> Verdict
+    ensures { λ r. ⌜ Checked (now (tables .entry)) stops «run_count» (now (runs .entry)) (length (now (work .entry))) r ⌝ }
+{
+    let judged = judge(tables, stops, run_count, runs, work.len());
+    match judged {
+        TablesRead::No(x) => Verdict::No(x),
+        TablesRead::Good(n) => {
+            tables::starts(tables, n, work);
+            compare(tables, n, work, runs, run_count as usize)
+        }
+    }
+}
+
+// The check of tables from anywhere against a timetable's numbers.
+pub fn check(tables: &[u8], stops: u32, run_count: u32, runs: &[u32], work: &mut [u16]) -> Verdict
+    ensures { λ r. ⌜ Checked (now (tables .entry)) stops «run_count» (now (runs .entry)) (length (now (work .entry))) r ⌝ }
+    ensures { λ r. ⌜ now (work .exit) ≡ zeros (now (work .entry)) ⌝ }
+{
+    let verdict = answer(tables, stops, run_count, runs, work);
+    loops::zero_u16(work);
+    verdict
 }
