@@ -1,6 +1,7 @@
 -- The check has one answer, and accepts exactly what is to be accepted; and what its steps say of its answer.
 use Prim.Native.Nat.{ℕ, _+_, _*_, _≤_, _<_}
-use mathlib.Core.Path.{_≡_, refl, sym, ap, subst, _∙_}
+use mathlib.Core.Path.{_≡_, refl, sym, ap, subst, subst₂, _∙_}
+use mathlib.Core.Logic.{_↔_}
 use mathlib.Core.List.{List}
 use mathlib.Core.Option.{Option}
 use mathlib.Core.Bool.{true}
@@ -84,6 +85,47 @@ pub checked-one : (b : List ℕ) (stops count : ℕ) (list : List ℕ) (lent : �
 checked-one b stops count list lent x y =
     answered-one (judgedBoth (judgedTables b) (judgedOf stops count list lent checkRoom) stops) (serviceOf stops count list) (tablesOf b) x y
 
+-- ---- each answer is given exactly when its reason holds
+
+number-of : Verdict → ℕ
+number-of Accepted = 0
+number-of (No x) = x .number
+
+place-of : Verdict → ℕ
+place-of Accepted = 0
+place-of (No x) = x .place
+
+stop-of : Verdict → ℕ
+stop-of Accepted = 0
+stop-of (No x) = x .stop
+
+module _ {S : Service} {T : Tables} {r : Verdict} (o : Outcome S T r) where
+  pub accepts : (r ≡ Accepted) ↔ the.Accepted S T
+  accepts = (λ e. to e o, λ a. outcome-one o (all-well a refl))
+    where
+      to : r ≡ Accepted → Outcome S T r → the.Accepted S T
+      to e (unsupported-at k x f) = let z : _≡_ {A = ℕ} 0 1 = cc in absurd (omega arith)
+      to e (gap-at i v x f) = let z : _≡_ {A = ℕ} 0 1 = cc in absurd (omega arith)
+      to e (all-well x f) = x
+
+  pub refuses-label : (k : ℕ) → (r ≡ No (refusal unsupported k)) ↔ UnsupportedFirst S T k
+  unfolding number-of place-of
+  refuses-label k = (λ e. to e o, λ x. outcome-one o (unsupported-at k x refl))
+    where
+      to : r ≡ No (refusal unsupported k) → Outcome S T r → UnsupportedFirst S T k
+      to e (unsupported-at j x f) = subst (UnsupportedFirst S T) (ap place-of (sym f ∙ e)) x
+      to e (gap-at i v x f) = absurd (omega (arith, ap number-of (sym f ∙ e)))
+      to e (all-well x f) = absurd (omega (arith, ap number-of (sym f ∙ e)))
+
+  pub refuses-gap : (i v : ℕ) → (r ≡ No (gapRefusal i v)) ↔ GapFirst S T i v
+  unfolding number-of place-of stop-of
+  refuses-gap i v = (λ e. to e o, λ x. outcome-one o (gap-at i v x refl))
+    where
+      to : r ≡ No (gapRefusal i v) → Outcome S T r → GapFirst S T i v
+      to e (unsupported-at j x f) = absurd (omega (arith, ap number-of (sym f ∙ e)))
+      to e (gap-at j w x f) = subst₂ (GapFirst S T) (ap place-of (sym f ∙ e)) (ap stop-of (sym f ∙ e)) x
+      to e (all-well x f) = absurd (omega (arith, ap number-of (sym f ∙ e)))
+
 -- ---- what was judged good
 
 pub record BothGood (b : List ℕ) (stops count : ℕ) (list : List ℕ) (lent n : ℕ) : Type 0 where
@@ -108,6 +150,21 @@ both-good b stops count list lent n e =
     let z = by-both (judgedTables b) (judgedOf stops count list lent checkRoom) stops n e in
     let g = timetable.judged-good stops count list lent checkRoom (z .1) in
     record { same = z .2; file = file.judged-good b n (z .0); numbers = subst (λ (m : ℕ). GoodNumbers m count list) (sym (z .2)) (g .0); room = g .1 }
+
+-- what an accepting answer promises: a good file and good numbers for the same stops, and the tables are accepted
+pub record AcceptedTables (b : List ℕ) (stops count : ℕ) (list : List ℕ) : Type 0 where
+  pub file : GoodFile b stops
+  pub numbers : GoodNumbers stops count list
+  pub accepted : the.Accepted (serviceOf stops count list) (tablesOf b)
+
+pub accepted-tables : (b : List ℕ) (stops count : ℕ) (list : List ℕ) (lent : ℕ) {r : Verdict} → Checked b stops count list lent r → r ≡ Accepted → AcceptedTables b stops count list
+accepted-tables b stops count list lent {r} c e = go (judgedBoth (judgedTables b) (judgedOf stops count list lent checkRoom) stops) (λ n q. both-good b stops count list lent n q) c
+  where
+    go : (j : TablesRead) → ((n : ℕ) → j ≡ tables.Good n → BothGood b stops count list lent n) → Answered j (serviceOf stops count list) (tablesOf b) r → AcceptedTables b stops count list
+    go (tables.No x) g f = let z : _≡_ {A = ℕ} 0 1 = cc in absurd (omega arith)
+    go (tables.Good n) g o =
+        let h = g n refl in
+        record { file = subst (GoodFile b) (h .same) (h .file); numbers = subst (λ (m : ℕ). GoodNumbers m count list) (h .same) (h .numbers); accepted = accepts o .0 e }
 
 -- the starts written down
 pub ready : {b : List ℕ} {n : ℕ} (w : List ℕ) {s : List ℕ} → GoodFile b n → 2 * n + 1 ≤ length w → s ≡ filled (startOf b) (2 * n + 1) w → Ready b n s
