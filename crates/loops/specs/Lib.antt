@@ -16,3 +16,7 @@ pub mod FilledLaws
 pub mod Rows
 pub mod Put
 pub mod PutLaws
+pub mod Tells
+pub mod TellsLaws
+pub mod Fails
+pub mod FailsLaws

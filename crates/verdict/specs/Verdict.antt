@@ -1,0 +1,50 @@
+-- What the check answers.
+use Prim.Native.Nat.{ℕ, _+_, _*_}
+use mathlib.Core.Path.{_≡_}
+use mathlib.Core.List.{List}
+use lib.Dec.{eqb}
+use Rattle.loops.specs.Unless.{unless}
+use Rattle.kinds.specs.Limits.{mostStops}
+use Rattle.kinds.specs.Refusals.{refusal, unsupported, gap, stopsDiffer}
+use Rattle.kinds.specs.declared.Refusal.{Refusal}
+use Rattle.journeys.specs.Service.{Service}
+use Rattle.journeys.specs.Tables.{Tables}
+use Rattle.journeys.specs.Check as the
+use Rattle.tables.specs.declared.TablesRead.{TablesRead}
+use Rattle.tables.specs.declared.TablesRead.the-variants as tables
+use Rattle.tables.specs.File.{judgedTables, tablesOf}
+use Rattle.timetable.specs.declared.Judged.{Judged}
+use Rattle.timetable.specs.declared.Judged.the-variants as numbers
+use Rattle.timetable.specs.Numbers.{judgedOf, serviceOf}
+use Rattle.verdict.specs.declared.Verdict.{Verdict}
+use Rattle.verdict.specs.declared.Verdict.the-variants.{Accepted, No}
+
+-- "Working room for any call is a fixed size": the starts of all sets, and the number of labels
+abbrev pub checkRoom : ℕ
+checkRoom = 2 * mostStops + 1
+
+-- "Check: 9, 10, 11, the timetable's, 21": what is refused before tables and timetable are compared, or the stop count of both
+abbrev pub judgedBoth : TablesRead → Judged → ℕ → TablesRead
+judgedBoth (tables.No x) j stops = tables.No x
+judgedBoth (tables.Good n) (numbers.No x) stops = tables.No x
+judgedBoth (tables.Good n) numbers.Good stops = unless (eqb n stops) (tables.No (refusal stopsDiffer 0)) (tables.Good n)
+
+-- 20 has two places: "run, stop"
+abbrev pub gapRefusal : ℕ → ℕ → Refusal
+gapRefusal i v = record { number = gap; place = i; stop = v }
+
+-- "then 19, 20": "The tables are accepted exactly when every label is supported and no run has a gap. The first failure ends the search, labels
+-- first, then runs by number and, within a run, stops by number."
+pub data Outcome (S : Service) (T : Tables) (r : Verdict) : Type 0 where
+  unsupported-at : (k : ℕ) → the.UnsupportedFirst S T k → r ≡ No (refusal unsupported k) → Outcome S T r
+  gap-at : (i v : ℕ) → the.GapFirst S T i v → r ≡ No (gapRefusal i v) → Outcome S T r
+  all-well : the.Accepted S T → r ≡ Accepted → Outcome S T r
+
+abbrev pub Answered : TablesRead → Service → Tables → Verdict → Type 0
+Answered (tables.No x) S T r = r ≡ No x
+Answered (tables.Good n) S T r = Outcome S T r
+
+-- r is the check's answer to these bytes and numbers, with so much working room lent
+abbrev pub Checked : List ℕ → ℕ → ℕ → List ℕ → ℕ → Verdict → Type 0
+Checked b stops count list lent r =
+    Answered (judgedBoth (judgedTables b) (judgedOf stops count list lent checkRoom) stops) (serviceOf stops count list) (tablesOf b) r
