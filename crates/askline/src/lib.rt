@@ -8,7 +8,10 @@ ghost use mathlib.Core.Path.{_≡_};
 ghost use Prim.Native.Nat.{ℕ, _+_, _≤_, _<_};
 ghost use lib.ListN.{length};
 ghost use Rattle.lookup.specs.LookupLaws.{Placed};
+ghost use Rattle.words.specs.Words.{isWordB};
+ghost use Rattle.lines.specs.Lines.{endWord};
 ghost use Rattle.askline.specs.AskLine.{lastNumber, shortAt, minutesAt, shapeAt, shapeOf, askLine};
+ghost use Rattle.askline.specs.Input.{timetableEnd, pieceAt};
 
 // The three asks.
 pub enum Word {
@@ -52,6 +55,13 @@ pub struct Ask {
 pub enum LineRead {
     Asked(Ask),
     No(u32),
+}
+
+// What stands at a place of the input: a line, with the place of its LF; bytes without LF; or nothing more.
+pub enum Piece {
+    Line(usize),
+    Unfinished,
+    Done,
 }
 
 // The number with which the line ends.
@@ -152,4 +162,76 @@ fn shape_of(text: &[u8], from: usize, to: usize) -> ShapeRead
         return shape_at(text, Word::Short, from + 6, to);
     }
     ShapeRead::Bad
+}
+
+// What the line asks. The codes of the stops stand in `text`, the line in `input`.
+pub fn ask_at(
+    text: &[u8],
+    codes: &[u32],
+    stops: u32,
+    input: &[u8],
+    from: usize,
+    to: usize,
+) -> LineRead
+    requires { ⌜ Placed (now text) (now codes) stops ⌝ }
+    requires { ⌜ (from ≤ to) × (to ≤ length (now input)) ⌝ }
+    ensures { λ r. ⌜ r ≡ askLine (now (text .entry)) (now (codes .entry)) stops (now (input .entry)) from to ⌝ }
+{
+    let ShapeRead::Good(shape) = shape_of(input, from, to) else {
+        return LineRead::No(Refusal::LINE_SHAPE);
+    };
+    let first = shape.from;
+    let second = shape.to;
+    let wanted = shape.wanted;
+    let u = lookup::scan(text, codes, stops, input, first.at, first.end - first.at);
+    if stops <= u {
+        return LineRead::No(Refusal::STOP_UNKNOWN);
+    }
+    let v = lookup::scan(text, codes, stops, input, second.at, second.end - second.at);
+    if stops <= v {
+        return LineRead::No(Refusal::STOP_UNKNOWN);
+    }
+    LineRead::Asked(Ask {
+        from: u,
+        to: v,
+        wanted,
+    })
+}
+
+fn is_end(input: &[u8], from: usize, to: usize) -> bool
+    requires { ⌜ (from ≤ to) × (to ≤ length (now input)) ⌝ }
+    ensures { λ r. ⌜ r ≡ isWordB (now (input .entry)) from to endWord ⌝ }
+{
+    words::is_word(input, from, to, b"end")
+}
+
+// How many bytes of the input are the timetable: through its first line that is "end".
+pub fn timetable_end(input: &[u8]) -> usize
+    ensures { λ r. ⌜ r ≡ timetableEnd (now (input .entry)) ⌝ }
+{
+    let mut at = 0;
+    loop {
+        let end = words::seek(input, b'\n', at, input.len());
+        if input.len() <= end {
+            return input.len();
+        }
+        if is_end(input, at, end) {
+            return end + 1;
+        }
+        at = end + 1;
+    }
+}
+
+// The next line from `at` on.
+pub fn piece_at(input: &[u8], at: usize) -> Piece
+    ensures { λ r. ⌜ r ≡ pieceAt (now (input .entry)) at ⌝ }
+{
+    if input.len() <= at {
+        return Piece::Done;
+    }
+    let end = words::seek(input, b'\n', at, input.len());
+    if input.len() <= end {
+        return Piece::Unfinished;
+    }
+    Piece::Line(end)
 }
