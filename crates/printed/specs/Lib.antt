@@ -1,0 +1,4 @@
+pub mod Printed
+pub mod DecimalLaws
+pub mod Wrote
+pub mod WroteLaws
