@@ -79,3 +79,7 @@ wrote-digit l i n h = rw (decimal-small n h) (record { is = refl; end = refl })
 
 pub wrote-tenth : {l m : List ℕ} {i j : ℕ} (n : ℕ) → 10 ≤ n → n < 10 ^ mostDigits → Wrote l i (decimal (n / 10)) m j → Wrote l i (decimal n) (set m j (digit (n % 10))) (j + 1)
 wrote-tenth n h k w = rw (decimal-more n h k) (wrote-then w (record { is = refl; end = refl }))
+
+-- a byte before
+pub wrote-after : {l m : List ℕ} {i j : ℕ} {x : ℕ} {xs : List ℕ} → Wrote (set l i x) (i + 1) xs m j → Wrote l i (x ∷ xs) m j
+wrote-after w = record { is = w .is; end = omega (arith, w .end) }
