@@ -84,6 +84,7 @@ fn put_lf(out: &mut [u8], at: usize) -> usize
 pub fn at_line(out: &mut [u8], dep: u32, arr: u32, rides: u32) -> usize
     requires { ⌜ lineRoom ≤ length (now out) ⌝ }
     ensures { λ r. ⌜ Wrote (now (out .entry)) 0 (atLine dep arr rides) (now (out .exit)) r ⌝ }
+    ensures { λ r. ⌜ r ≤ lineRoom ⌝ }
 {
     let a = put_part(out, 0, b"at", 0, 2);
     let b = put_number(out, a, dep);
@@ -105,6 +106,7 @@ pub fn ride_line(
     requires { ⌜ lineRoom ≤ length (now out) ⌝ }
     requires { ⌜ CodeIn (now text) from × CodeIn (now text) to ⌝ }
     ensures { λ r. ⌜ Wrote (now (out .entry)) 0 (rideLine (now (text .entry)) from to dep arr trip) (now (out .exit)) r ⌝ }
+    ensures { λ r. ⌜ r ≤ lineRoom ⌝ }
 {
     let a = put_part(out, 0, b"ride", 0, 4);
     let b = put_code(out, a, text, from);
@@ -119,6 +121,7 @@ pub fn ride_line(
 pub fn no_line(out: &mut [u8], number: u32) -> usize
     requires { ⌜ lineRoom ≤ length (now out) ⌝ }
     ensures { λ r. ⌜ Wrote (now (out .entry)) 0 (noLine number) (now (out .exit)) r ⌝ }
+    ensures { λ r. ⌜ r ≤ lineRoom ⌝ }
 {
     let a = put_part(out, 0, b"no", 0, 2);
     let b = put_number(out, a, number);
@@ -129,6 +132,7 @@ pub fn no_line(out: &mut [u8], number: u32) -> usize
 pub fn no_place_line(out: &mut [u8], number: u32, place: u32) -> usize
     requires { ⌜ lineRoom ≤ length (now out) ⌝ }
     ensures { λ r. ⌜ Wrote (now (out .entry)) 0 (noPlaceLine number place) (now (out .exit)) r ⌝ }
+    ensures { λ r. ⌜ r ≤ lineRoom ⌝ }
 {
     let a = put_part(out, 0, b"no", 0, 2);
     let b = put_number(out, a, number);

@@ -30,7 +30,7 @@ returns c =
     let p₃ = c .before .before in
     let p₂ = p₃ .before .before .before .before in
     let p₁ = p₂ .before .before .before .before in
-    wrote-then (p₁ .put-part .ensures) (wrote-then (p₂ .put-number .ensures .0) (p₃ .put-lf .ensures))
+    (wrote-then (p₁ .put-part .ensures) (wrote-then (p₂ .put-number .ensures .0) (p₃ .put-lf .ensures)), search needs)
 
 pub no-line-spec : {M : Type 1} → statement M
 no-line-spec =

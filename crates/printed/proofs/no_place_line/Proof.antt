@@ -34,7 +34,7 @@ returns c =
     let p₃ = p₄ .before .before .before .before in
     let p₂ = p₃ .before .before .before .before in
     let p₁ = p₂ .before .before .before .before in
-    wrote-then (p₁ .put-part .ensures) (wrote-then (p₂ .put-number .ensures .0) (wrote-then (p₃ .put-number2 .ensures .0) (p₄ .put-lf .ensures)))
+    (wrote-then (p₁ .put-part .ensures) (wrote-then (p₂ .put-number .ensures .0) (wrote-then (p₃ .put-number2 .ensures .0) (p₄ .put-lf .ensures))), search needs)
 
 pub no-place-line-spec : {M : Type 1} → statement M
 no-place-line-spec =

@@ -47,7 +47,7 @@ returns c =
     let p₃ = p₄ .before .before .before .before in
     let p₂ = p₃ .before .before .before .before in
     let p₁ = p₂ .before .before .before .before in
-    wrote-then (p₁ .put-part .ensures) (wrote-then (p₂ .put-code .ensures .0) (wrote-then (p₃ .put-code2 .ensures .0) (wrote-then (p₄ .put-number .ensures .0) (wrote-then (p₅ .put-number2 .ensures .0) (wrote-then (p₆ .put-number3 .ensures .0) (p₇ .put-lf .ensures))))))
+    (wrote-then (p₁ .put-part .ensures) (wrote-then (p₂ .put-code .ensures .0) (wrote-then (p₃ .put-code2 .ensures .0) (wrote-then (p₄ .put-number .ensures .0) (wrote-then (p₅ .put-number2 .ensures .0) (wrote-then (p₆ .put-number3 .ensures .0) (p₇ .put-lf .ensures)))))), search needs)
 
 pub ride-line-spec : {M : Type 1} → statement M
 ride-line-spec =
