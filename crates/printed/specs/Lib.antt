@@ -2,3 +2,4 @@ pub mod Printed
 pub mod DecimalLaws
 pub mod Wrote
 pub mod WroteLaws
+pub mod ReadBack

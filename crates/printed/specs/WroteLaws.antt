@@ -31,14 +31,20 @@ module _ {l : List ℕ} {i : ℕ} {xs m : List ℕ} {j : ℕ} (w : Wrote l i xs 
         end = rw length-append (omega (arith, w .end, v .end));
       }
 
-  -- the bytes that were written are the first bytes of the buffer, where they begin there
-  pub wrote-first : i ≡ 0 → length xs ≤ length l → take (length xs) m ≡ xs
-  wrote-first z h =
-      ext-getD 0 (take (length xs) m) xs (length-take-le (length xs) m (omega (arith, wrote-length)))
-      (λ k lt. let lt′ : k < length xs = omega (arith, length-take-le (length xs) m (omega (arith, wrote-length))) in at k lt′)
-    where
-      at : (k : ℕ) → k < length xs → getD (take (length xs) m) k 0 ≡ getD xs k 0
-      at k lt = getD-take (length xs) m k 0 lt ∙ rw (w .is, z) (ap (λ (p : ℕ). getD (putFrom l 0 xs) p 0) (sym (zero-add k)) ∙ put-at l 0 xs k lt (omega arith))
+-- no second result: what was in the buffer and what is written determine what it holds, and the place after
+pub wrote-one : {l : List ℕ} {i : ℕ} {xs m n : List ℕ} {j k : ℕ} → Wrote l i xs m j → Wrote l i xs n k → (m ≡ n) × (j ≡ k)
+wrote-one w v = (w .is ∙ sym (v .is), w .end ∙ sym (v .end))
+
+-- what is written from the buffer's start is its first bytes
+pub wrote-first : {l xs m : List ℕ} {j : ℕ} → Wrote l 0 xs m j → length xs ≤ length l → take j m ≡ xs
+wrote-first {l} {xs} {m} {j} w h = ext-getD 0 (take j m) xs long (λ k lt. at k (omega (arith, long)))
+  where
+    long : length (take j m) ≡ length xs
+    long = let e : j ≡ length xs = omega (arith, w .end) in length-take-le j m (omega (arith, wrote-length w)) ∙ e
+
+    at : (k : ℕ) → k < length xs → getD (take j m) k 0 ≡ getD xs k 0
+    at k lt =
+        getD-take j m k 0 (omega (arith, w .end)) ∙ rw (w .is) (ap (λ (p : ℕ). getD (putFrom l 0 xs) p 0) (sym (zero-add k)) ∙ put-at l 0 xs k lt (omega arith))
 
 -- the loop that copies: k of the n bytes of xs have been written
 pub record Copying (l : List ℕ) (i : ℕ) (xs m : List ℕ) (k : ℕ) : Type 0 where
