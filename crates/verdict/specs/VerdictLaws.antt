@@ -21,7 +21,8 @@ use Rattle.journeys.specs.Check as the
 use Rattle.journeys.specs.Check.{SupportedAt, AllSupported, UnsupportedFirst, GapFirst}
 use Rattle.tables.specs.declared.TablesRead.{TablesRead}
 use Rattle.tables.specs.declared.TablesRead.the-variants as tables
-use Rattle.tables.specs.File.{judgedTables, tablesOf, startOf, labelsOf, stopsOf}
+use Rattle.tables.specs.File.{tablesOf, startOf, labelsOf, stopsOf}
+use Rattle.tables.specs.Judged.{judgedTables}
 use Rattle.tables.specs.Good.{GoodFile}
 use Rattle.tables.specs.GoodLaws as file
 use Rattle.tables.specs.TablesLaws.{tables-stops, tables-within}
