@@ -11,12 +11,13 @@ use Rattle.lookup.specs.Lookup.{startOf, lengthOf}
 use Rattle.lookup.specs.LookupLaws.{Placed}
 
 abbrev pub buckets : ℕ
-buckets = 1024
+buckets = 1021
 
--- k bytes from a on, each weighed by its place
+-- k bytes from a on, each weighed by the square of its place: codes that differ in few places, or in the order of some bytes, differ in the sum.
+-- (Weights that rise evenly put such codes together. The number of buckets is a prime, as some weights have a factor 2.)
 unfoldable pub weighed : List ℕ → ℕ → ℕ → ℕ
 weighed t a zero = 0
-weighed t a (suc k) = weighed t a k + (k + 31) * getD t (a + k) 0
+weighed t a (suc k) = weighed t a k + (k + 5) * (k + 5) * getD t (a + k) 0
 
 -- as many bytes as a code has at most
 unfoldable pub weighedBytes : ℕ → ℕ
