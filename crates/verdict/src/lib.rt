@@ -20,6 +20,36 @@ ghost use Rattle.verdict.specs.Steps.{relaxed, soonerOf};
 ghost use Rattle.verdict.specs.Gaps.{NoGapOf, Compared, GapIn};
 ghost use Rattle.verdict.specs.Verdict.{checkRoom, judgedBoth, Outcome, Checked};
 
+// What the check answers.
+pub enum Verdict {
+    Accepted,
+    No(Refusal),
+}
+
+impl Verdict {
+    // The working room of a check, in numbers of two bytes: the starts of all sets, and the number of labels.
+    pub const ROOM: usize = 2 * Stop::MOST + 1;
+
+    pub fn room() -> usize
+        ensures { λ r. do ⌜ r ≡ (← ⟦Verdict::ROOM⟧ .entry) ⌝ }
+        ensures { λ r. ⌜ r ≡ checkRoom ⌝ }
+    {
+        Verdict::ROOM
+    }
+}
+
+// The first gap: its run and its stop.
+enum Gap {
+    At(u32, u32),
+    Nothing,
+}
+
+// When one can be at a stop, by two arrays of the hubs.
+struct Both {
+    near: u16,
+    far: u16,
+}
+
 // A minute past all others: not reached.
 const UNREACHED: u16 = 65535;
 
@@ -55,12 +85,6 @@ fn reach(tables: &[u8], n: u16, starts: &[u16], u: u16, d: u16) -> [u16; Stop::M
         k += 1;
     }
     reached
-}
-
-// When one can be at a stop, by two arrays of the hubs.
-struct Both {
-    near: u16,
-    far: u16,
 }
 
 // One in-label more, whose hub is reached at m: it counts where it leaves then or later, and the sooner arrival stays.
@@ -130,12 +154,6 @@ fn no_gap(
     both.near <= both.far
 }
 
-// The first gap: its run and its stop.
-enum Gap {
-    At(u32, u32),
-    Nothing,
-}
-
 // The runs by number and, within a run, the stops by number; the first gap ends the search.
 fn first_gap(tables: &[u8], n: u16, starts: &[u16], runs: &[u32], count: usize) -> Gap
     requires { ⌜ Ready (now tables) n (now starts) ⌝ }
@@ -161,24 +179,6 @@ fn first_gap(tables: &[u8], n: u16, starts: &[u16], runs: &[u32], count: usize) 
         return Gap::At(i as u32, v as u32);
     }
     Gap::Nothing
-}
-
-// What the check answers.
-pub enum Verdict {
-    Accepted,
-    No(Refusal),
-}
-
-impl Verdict {
-    // The working room of a check, in numbers of two bytes: the starts of all sets, and the number of labels.
-    pub const ROOM: usize = 2 * Stop::MOST + 1;
-
-    pub fn room() -> usize
-        ensures { λ r. do ⌜ r ≡ (← ⟦Verdict::ROOM⟧ .entry) ⌝ }
-        ensures { λ r. ⌜ r ≡ checkRoom ⌝ }
-    {
-        Verdict::ROOM
-    }
 }
 
 // 9, 10 and 11, then the timetable's, then 21; or the stop count.
