@@ -1,10 +1,10 @@
 -- Laws of ways: the label that a set's number and a label read say, and the runs that it may have.
-use Prim.Native.Nat.{ℕ, _+_, _*_, _/_, _%_, _≤_, _<_}
-use mathlib.Core.Path.{_≡_, refl, sym, ap, subst, _∙_}
+use Prim.Native.Nat.{ℕ, _+_, _*_, _%_, _≤_, _<_}
+use mathlib.Core.Path.{_≡_, sym, ap, _∙_}
 use mathlib.Core.List.{List}
-use mathlib.Core.Logic.{_⊎_, inl, inr, _↔_}
+use mathlib.Core.Logic.{_⊎_, inl, inr}
 use mathlib.Core.Option.{Option}
-use mathlib.Core.Bool.{Bool, true, false}
+use mathlib.Core.Bool.{Bool}
 use native.Mathlib.Omega.{arith}
 use native.Mathlib.Decide.{decLt, ℕ-discrete}
 use borrow.Author.Tests.{eq-eqb, ne-eqb}
@@ -19,7 +19,7 @@ use Rattle.journeys.specs.Service.{Service, RideAt}
 use Rattle.journeys.specs.Tables.{Side, outs, ins, Tables, Entry, LabelAt, of-out, of-in}
 use Rattle.journeys.specs.Check.{Halves, SupportedAt}
 use Rattle.journeys.specs.SketchLaws.{entry-at}
-use Rattle.tables.specs.File.{startOf, endOf, setOf, ownerOf, labelsOf, labelAt, pivotOf, tablesOf}
+use Rattle.tables.specs.File.{startOf, endOf, setOf, ownerOf, labelAt, pivotOf, tablesOf}
 use Rattle.tables.specs.FileLaws.{start-more, start-rises}
 use Rattle.tables.specs.Good.{GoodFile}
 use Rattle.tables.specs.TablesLaws.{tables-stops, tables-start, tables-end, entry-label}

@@ -2,7 +2,7 @@
 use kinds::Label;
 use kinds::Run;
 ghost use mathlib.Core.Path.{_≡_};
-ghost use Prim.Native.Nat.{ℕ, _+_, _*_, _≤_, _<_};
+ghost use Prim.Native.Nat.{_+_, _*_, _≤_, _<_};
 ghost use lib.ListN.{length, getD};
 ghost use Rattle.loops.specs.First.{FirstAt};
 ghost use Rattle.loops.specs.Fails.{FailsAt};

@@ -1,8 +1,8 @@
 -- What the comparisons tell, and the turns of the search for gaps.
-use Prim.Native.Nat.{ℕ, _+_, _≤_, _<_}
-use mathlib.Core.Path.{_≡_, refl, sym, ap, subst, _∙_}
+use Prim.Native.Nat.{ℕ, _≤_, _<_}
+use mathlib.Core.Path.{_≡_, sym, ap, subst, _∙_}
 use mathlib.Core.List.{List}
-use mathlib.Core.Bool.{Bool, true, false}
+use mathlib.Core.Bool.{Bool}
 use mathlib.Core.Logic.{_≢_, _↔_}
 use native.Mathlib.Omega.{arith}
 use lib.ListN.{getD}
@@ -12,7 +12,6 @@ use Rattle.loops.specs.Fails.{HoldsTo}
 use Rattle.loops.specs.Tells.{Tells}
 use Rattle.loops.specs.TellsLaws.{tells-as}
 use Rattle.kinds.specs.declared.Run.{Run}
-use Rattle.journeys.specs.Service.{Service, RideAt}
 use Rattle.journeys.specs.Tables.{Tables, ins}
 use Rattle.journeys.specs.Check.{NoGap, NoGapAt, NoGaps}
 use Rattle.tables.specs.File.{tablesOf}
