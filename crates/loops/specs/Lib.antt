@@ -13,3 +13,8 @@ pub mod FirstOf
 pub mod FirstOfLaws
 pub mod Filled
 pub mod FilledLaws
+pub mod Tells
+pub mod TellsLaws
+pub mod Compares
+pub mod Written
+pub mod WrittenLaws
