@@ -1,5 +1,5 @@
 -- What is looked up: a label by its ends and one of its minutes; the two labels that meet at a pivot; a run by its ends and minutes.
-use Prim.Native.Nat.{ℕ, _*_, _≤_, _<_}
+use Prim.Native.Nat.{ℕ, min, _*_, _≤_, _<_}
 use mathlib.Core.Path.{_≡_}
 use mathlib.Core.List.{List}
 use mathlib.Core.Option.{Option}
@@ -35,18 +35,21 @@ pub record SetAt (b : List ℕ) (n : ℕ) (side : Side) (s from to : ℕ) : Type
   pub end : tablesOf b .end side s ≡ to
 
 -- a label of the owner s on this side with this hub and this moment, or that there is none
-pub record FoundIn (T : Tables) (side : Side) (s hub : ℕ) (m : Moment) (l : kinds.Label) : Type 0 where
+pub record FoundIn (T : Tables) (side : Side) (s h : ℕ) (m : Moment) (l : kinds.Label) : Type 0 where
   pub number : ℕ
-  pub entry : Entry T side number s hub (l .dep) (l .arr) (pivotOf (l .pivot))
+  pub entry : Entry T side number s h (l .dep) (l .arr) (pivotOf (l .pivot))
+  pub hub : l .hub ≡ h
   pub says : Exactly m (l .dep) (l .arr)
 
 abbrev pub SoughtIn : Tables → Side → ℕ → ℕ → Moment → Sought → Type 0
 SoughtIn T side s hub m (Found l) = FoundIn T side s hub m l
 SoughtIn T side s hub m Missing = (k d a : ℕ) (p : Option ℕ) → Entry T side k s hub d a p → ¬ (Exactly m d a)
 
--- "the label u to p that leaves at the same minute", "the label p to v that arrives at the same minute", or that there is none
+-- "the label u to p that leaves at the same minute", "the label p to v that arrives at the same minute", or that there is none.
+-- (Its hub is the end with the lower number.)
 pub record FoundLabel (T : Tables) (u v : ℕ) (m : Moment) (l : kinds.Label) : Type 0 where
   pub label : Label T u v (l .dep) (l .arr) (pivotOf (l .pivot))
+  pub hub : l .hub ≡ min u v
   pub says : Exactly m (l .dep) (l .arr)
 
 abbrev pub SoughtAs : Tables → ℕ → ℕ → Moment → Sought → Type 0

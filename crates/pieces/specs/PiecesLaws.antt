@@ -6,11 +6,13 @@ use mathlib.Core.Logic.{_⊎_, inl, inr}
 use mathlib.Core.Bool.{Bool, true, false}
 use mathlib.Core.Option.{Option}
 use native.Mathlib.Omega.{arith}
-use native.Mathlib.Decide.{decLt}
+use native.Mathlib.Nat.{le-of-lt, min-eq-left, min-eq-right}
+use native.Mathlib.Decide.{decLt, ℕ-discrete}
 use lib.ListN.{length, getD}
 use Rattle.loops.specs.First.{FirstAt}
 use Rattle.loops.specs.Tells.{Tells}
 use Rattle.loops.specs.TellsLaws.{told-true, told-false}
+use Rattle.kinds.specs.Limits.{noPivot}
 use Rattle.kinds.specs.declared.Label as kinds
 use Rattle.journeys.specs.Tables.{Side, outs, ins, Tables, Entry, of-out, of-in, Label, GoodTables}
 use Rattle.journeys.specs.Check.{Halves}
@@ -20,7 +22,7 @@ use Rattle.tables.specs.FileLaws.{start-more}
 use Rattle.tables.specs.Good.{GoodFile}
 use Rattle.kinds.specs.declared.Run.{Run}
 use Rattle.timetable.specs.Numbers.{runAt, serviceOf}
-use Rattle.tables.specs.TablesLaws.{tables-stops, tables-start, tables-end, tables-within, good-tables}
+use Rattle.tables.specs.TablesLaws.{pivot-none, pivot-some, tables-stops, tables-start, tables-end, tables-within, good-tables}
 use Rattle.pieces.specs.declared.Moment.{Moment}
 use Rattle.pieces.specs.declared.Moment.the-variants.{Leaving, Arriving}
 use Rattle.pieces.specs.declared.Sought.{Sought}
@@ -28,7 +30,9 @@ use Rattle.pieces.specs.declared.Sought.the-variants.{Found, Missing}
 use Rattle.pieces.specs.Seek.{Exactly, NotBefore, Past, AtLabel}
 use Rattle.pieces.specs.declared.Span.{Span}
 use Rattle.pieces.specs.declared.Meeting.{Meeting}
-use Rattle.pieces.specs.Pieces.{Ready, SetAt, FoundIn, SoughtIn, FoundLabel, SoughtAs, MeetAt, IsRun, RunIs}
+use Rattle.pieces.specs.declared.Parted.{Parted}
+use Rattle.pieces.specs.declared.Parted.the-variants as parted
+use Rattle.pieces.specs.Pieces.{Ready, SetAt, FoundIn, SoughtIn, FoundLabel, SoughtAs, MeetAt, PartedAs, IsRun, RunIs}
 
 -- ---- the place that was found, in one set of good tables
 
@@ -78,6 +82,7 @@ module _ {b : List ℕ} {n : ℕ} {side : Side} {s from to hub : ℕ} (m : Momen
     there lt f = record {
       number = k;
       entry = rw e (record { owner = omega (arith, A .owner, A .file .room .contents .stops); low = in-set .passed .low; high = omega (arith, A .end); hub = ap (λ x. x .hub) (sym e) ∙ told-true t f .0; dep = refl; arr = refl; pivot = refl });
+      hub = told-true t f .0;
       says = told-true t f .1;
     }
 
@@ -108,7 +113,7 @@ set-bounds {b} {side = side} {s} A = (omega (arith, A .start, A .end, tables-sta
 module _ {T : Tables} (G : GoodTables T) {u v : ℕ} (m : Moment) where
   -- a label u to v stands among the out-labels of u where v is the lower number, else among the in-labels of v
   pub of-outs : (r : Sought) → v < u → SoughtIn T outs u v m r → SoughtAs T u v m r
-  of-outs (Found l) lt x = record { label = (x .number, of-out (x .entry)); says = x .says }
+  of-outs (Found l) lt x = record { label = (x .number, of-out (x .entry)); hub = x .hub ∙ sym (min-eq-right (le-of-lt lt)); says = x .says }
   of-outs Missing lt n = λ w. none (w .label) (w .says)
     where
       none : {d a : ℕ} {p : Option ℕ} → Label T u v d a p → ¬ (Exactly m d a)
@@ -116,7 +121,7 @@ module _ {T : Tables} (G : GoodTables T) {u v : ℕ} (m : Moment) where
       none (k, of-in e) = λ _. omega (arith, G .below e)
 
   pub of-ins : (r : Sought) → u ≤ v → SoughtIn T ins v u m r → SoughtAs T u v m r
-  of-ins (Found l) le x = record { label = (x .number, of-in (x .entry)); says = x .says }
+  of-ins (Found l) le x = record { label = (x .number, of-in (x .entry)); hub = x .hub ∙ sym (min-eq-left le); says = x .says }
   of-ins Missing le n = λ w. none (w .label) (w .says)
     where
       none : {d a : ℕ} {p : Option ℕ} → Label T u v d a p → ¬ (Exactly m d a)
@@ -147,6 +152,55 @@ module _ {T : Tables} (s : Span) where
         let e = one-by-dep G (h .first) first-of .0 in
         let f = one-by-arr G (h .second) second-of .0 in
         omega (arith, h .meets)
+
+-- ---- no second answer meets the contracts
+
+pivot-one : (p q : ℕ) → pivotOf p ≡ pivotOf q → p ≡ q
+pivot-one p q e = go (ℕ-discrete p noPivot) (ℕ-discrete q noPivot)
+  where
+    go : Dec (p ≡ noPivot) → Dec (q ≡ noPivot) → p ≡ q
+    go (yes h) (yes k) = h ∙ sym k
+    go (yes h) (no k) = absurd (let x = sym (pivot-none p h) ∙ e ∙ pivot-some q k in let z : _≡_ {A = ℕ} 0 1 = cc in omega arith)
+    go (no h) (yes k) = absurd (let x = sym (pivot-some p h) ∙ e ∙ pivot-none q k in let z : _≡_ {A = ℕ} 0 1 = cc in omega arith)
+    go (no h) (no k) = let x = sym (pivot-some p h) ∙ e ∙ pivot-some q k in cc
+
+same-label : {d e a b h g p q : ℕ} → h ≡ g → d ≡ e → a ≡ b → p ≡ q →
+    _≡_ {A = kinds.Label} (record { hub = h; dep = d; arr = a; pivot = p }) (record { hub = g; dep = e; arr = b; pivot = q })
+same-label e f g h = cc
+
+same-fields : {a b c d e f g h : ℕ} → a ≡ e → b ≡ f → c ≡ g → d ≡ h →
+    _≡_ {A = Meeting} (record { mid = a; first = b; start = c; second = d }) (record { mid = e; first = f; start = g; second = h })
+same-fields e f g h = cc
+
+module _ {T : Tables} (G : GoodTables T) where
+  same-found : {u v : ℕ} (m : Moment) {x y : kinds.Label} → FoundLabel T u v m x → FoundLabel T u v m y → x ≡ y
+  same-found {u} {v} (Leaving t) {x} {y} f g =
+      let s = one-by-dep G (subst (λ d. Label T u v d (x .arr) (pivotOf (x .pivot))) (f .says) (f .label)) (subst (λ d. Label T u v d (y .arr) (pivotOf (y .pivot))) (g .says) (g .label)) in
+      same-label (f .hub ∙ sym (g .hub)) (f .says ∙ sym (g .says)) (s .0) (pivot-one (x .pivot) (y .pivot) (s .1))
+  same-found {u} {v} (Arriving t) {x} {y} f g =
+      let s = one-by-arr G (subst (λ a. Label T u v (x .dep) a (pivotOf (x .pivot))) (f .says) (f .label)) (subst (λ a. Label T u v (y .dep) a (pivotOf (y .pivot))) (g .says) (g .label)) in
+      same-label (f .hub ∙ sym (g .hub)) (s .0) (f .says ∙ sym (g .says)) (pivot-one (x .pivot) (y .pivot) (s .1))
+
+  pub sought-one : (u v : ℕ) (m : Moment) (r s : Sought) → SoughtAs T u v m r → SoughtAs T u v m s → r ≡ s
+  sought-one u v m (Found x) (Found y) f g = ap Found (same-found m f g)
+  sought-one u v m (Found x) Missing f n = absurd (n (record { dep = x .dep; arr = x .arr; pivot = pivotOf (x .pivot); label = f .label; says = f .says }))
+  sought-one u v m Missing (Found y) n g = absurd (n (record { dep = y .dep; arr = y .arr; pivot = pivotOf (y .pivot); label = g .label; says = g .says }))
+  sought-one u v m Missing Missing n k = refl
+
+  met-halves : (s : Span) (h : Meeting) → MeetAt T s h → Halves T (s .from) (s .pivot) (s .to) (s .dep) (s .arr)
+  met-halves s h x = record { mid = h .mid; start = h .start; pivot₁ = pivotOf (h .first); pivot₂ = pivotOf (h .second); first = x .first; second = x .second; meets = x .meets }
+
+  same-meeting : (s : Span) (h k : Meeting) → MeetAt T s h → MeetAt T s k → h ≡ k
+  same-meeting s h k x y =
+      let a = one-by-dep G (x .first) (y .first) in
+      let b = one-by-arr G (x .second) (y .second) in
+      same-fields (a .0) (pivot-one (h .first) (k .first) (a .1)) (b .0) (pivot-one (h .second) (k .second) (b .1))
+
+  pub parted-one : (s : Span) (x y : Parted) → PartedAs T s x → PartedAs T s y → x ≡ y
+  parted-one s (parted.Met h) (parted.Met k) f g = ap parted.Met (same-meeting s h k f g)
+  parted-one s (parted.Met h) parted.Missing f n = absurd (n (met-halves s h f))
+  parted-one s parted.Missing (parted.Met k) n g = absurd (n (met-halves s k g))
+  parted-one s parted.Missing parted.Missing n k = refl
 
 -- ---- the run
 
