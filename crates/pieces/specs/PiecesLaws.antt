@@ -46,22 +46,26 @@ module _ {T : Tables} (G : GoodTables T) {side : Side} {s hub : ℕ} where
   rising (Leaving t) x y lt h f = omega (arith, G .deps-rise x y lt)
   rising (Arriving t) x y lt h f = omega (arith, G .arrs-rise x y lt)
 
-  -- the place k is where the label would stand, and it is not there
-  pub none-there : (m : Moment) {k : ℕ} → FirstAt (Past T hub m) (T .start side s) (T .end side s) k →
-      (k < T .end side s → T .hub k ≡ hub → ¬ (Exactly m (T .dep k) (T .arr k))) → SoughtIn T side s hub m Missing
-  none-there m {k} F off i d a p x f = go (decLt i k) (decLt k i)
+  -- a label with this hub and this moment stands at the place that was found
+  pub stands-there : (m : Moment) {k i d a : ℕ} {p : Option ℕ} → FirstAt (Past T hub m) (T .start side s) (T .end side s) k → Entry T side i s hub d a p → Exactly m d a → i ≡ k
+  stands-there m {k} {i} {d} {a} F x f = go (decLt i k) (decLt k i)
     where
       after : k < i → Past T hub m k → ⊥
       after lt (inl h) = omega (arith, G .hubs-rise (entry-at (x .owner) (F .passed .low) (omega (arith, x .high))) x lt)
       after lt (inr h) =
           rising m (subst (λ g. Entry T side k s g (T .dep k) (T .arr k) (T .pivot k)) (h .0) (entry-at (x .owner) (F .passed .low) (omega (arith, x .high)))) x lt (h .1) f
 
-      go : Dec (i < k) → Dec (k < i) → ⊥
-      go (yes lt) z = F .passed .none i (x .low) lt (inr (x .hub, rw (x .dep, x .arr) (exactly-not-before m d a f)))
-      go (no l) (yes lt) = after lt (F .here (omega (arith, x .high)))
-      go (no l) (no h) =
-          let e : i ≡ k = omega arith in
-          off (omega (arith, x .high)) (rw (← e) (x .hub)) (rw (← e, x .dep, x .arr) f)
+      go : Dec (i < k) → Dec (k < i) → i ≡ k
+      go (yes lt) z = absurd (F .passed .none i (x .low) lt (inr (x .hub, rw (x .dep, x .arr) (exactly-not-before m d a f))))
+      go (no l) (yes lt) = absurd (after lt (F .here (omega (arith, x .high))))
+      go (no l) (no h) = omega arith
+
+  -- so there is none where none stands at that place
+  pub none-there : (m : Moment) {k : ℕ} → FirstAt (Past T hub m) (T .start side s) (T .end side s) k →
+      (k < T .end side s → T .hub k ≡ hub → ¬ (Exactly m (T .dep k) (T .arr k))) → SoughtIn T side s hub m Missing
+  none-there m {k} F off i d a p x f =
+      let e = stands-there m F x f in
+      off (omega (arith, x .high)) (rw (← e) (x .hub)) (rw (← e, x .dep, x .arr) f)
 
 -- what the search in a set says of it, where place k was found between the set's bounds
 module _ {b : List ℕ} {n : ℕ} {side : Side} {s from to hub : ℕ} (m : Moment) {k : ℕ} (A : SetAt b n side s from to) (F : FirstAt (Past (tablesOf b) hub m) from to k) where
