@@ -6,6 +6,7 @@ use mathlib.Core.Option.{Option, none, some}
 use native.Mathlib.Omega.{arith}
 use lib.ListN.{length, length-append}
 use Rattle.loops.specs.First.{FirstAt}
+use Rattle.loops.specs.Written.{written}
 use Rattle.kinds.specs.Limits.{noPivot, lastMinute}
 use Rattle.journeys.specs.Service.{Service, RideAt}
 use Rattle.journeys.specs.Tables.{Tables, of-out, of-in, Label, GoodTables}
@@ -19,7 +20,9 @@ use Rattle.timetable.specs.Numbers.{serviceOf}
 use Rattle.pieces.specs.declared.Span.{Span}
 use Rattle.pieces.specs.declared.Meeting.{Meeting}
 use Rattle.pieces.specs.Pieces.{MeetAt, IsRun, RunIs}
-use Rattle.opening.specs.Opening.{SpanIn, SpanOpens}
+use Rattle.opening.specs.declared.Opened.{Opened}
+use Rattle.opening.specs.declared.Opened.the-variants.{Rides, Missing}
+use Rattle.opening.specs.Opening.{SpanIn, SpanOpens, OpenedInto}
 
 -- ---- with no pivot
 
@@ -47,7 +50,8 @@ firstOf s h = record { from = s .from; to = s .pivot; dep = s .dep; arr = h .mid
 abbrev pub secondOf : Span → Meeting → Span
 secondOf s h = record { from = s .pivot; to = s .to; dep = h .start; arr = s .arr; pivot = h .second }
 
-label-pivot : {T : Tables} → GoodTables T → {u v d a : ℕ} (p : ℕ) → Label T u v d a (pivotOf p) → (p ≡ noPivot → ⊥) → p < T .stops
+-- a label's pivot is a stop
+pub label-pivot : {T : Tables} → GoodTables T → {u v d a : ℕ} (p : ℕ) → Label T u v d a (pivotOf p) → (p ≡ noPivot → ⊥) → p < T .stops
 label-pivot {T} G {u} {v} {d} {a} p l n = go (subst (Label T u v d a) (pivot-some p n) l)
   where
     go : Label T u v d a (some p) → p < T .stops
@@ -102,3 +106,13 @@ pub halves-missing : {S : Service} {T : Tables} (s : Span) → (s .pivot ≡ noP
 halves-missing s some-pivot n l o =
     let r = parts (rw (pivot-some (s .pivot) some-pivot) at o) in
     n (record { mid = r .mid; start = r .start; pivot₁ = r .pivot₁; pivot₂ = r .pivot₂; first = r .first; second = r .second; meets = r .meets })
+
+-- ---- where one list at most is the rides, no second answer and no second list meet the contract
+pub opened-one : (P : List ℕ → Type 0) → ((l m : List ℕ) → P l → P m → l ≡ m) → (before x y : List ℕ) (r s : Opened) →
+    OpenedInto P before x r → OpenedInto P before y s → (r ≡ s) × (x ≡ y)
+opened-one P one before x y (Rides j) (Rides k) f g =
+    let e = one (f .rides) (g .rides) (f .are) (g .are) in
+    (ap Rides (f .count ∙ ap length e ∙ sym (g .count)), f .holds ∙ ap (λ l. written l before) e ∙ sym (g .holds))
+opened-one P one before x y (Rides j) Missing f g = absurd (g .0 (f .rides) (f .are))
+opened-one P one before x y Missing (Rides k) f g = absurd (f .0 (g .rides) (g .are))
+opened-one P one before x y Missing Missing f g = (refl, f .1 ∙ sym (g .1))

@@ -4,6 +4,7 @@ use mathlib.Core.Path.{_≡_}
 use mathlib.Core.List.{List}
 use lib.ListN.{length}
 use Rattle.loops.specs.Written.{written}
+use Rattle.loops.specs.Zero.{zeros}
 use Rattle.kinds.specs.Limits.{noPivot}
 use Rattle.journeys.specs.Service.{Service}
 use Rattle.journeys.specs.Tables.{Tables}
@@ -41,3 +42,8 @@ pub record Listed (P : List ℕ → Type 0) (before after : List ℕ) (k : ℕ) 
 abbrev pub OpenedAs : (List ℕ → Type 0) → List ℕ → List ℕ → Opened → Type 0
 OpenedAs P before after (Rides k) = Listed P before after k
 OpenedAs P before after Missing = (l : List ℕ) → ¬ (P l)
+
+-- the same, and where there are none the lent list is all zero
+abbrev pub OpenedInto : (List ℕ → Type 0) → List ℕ → List ℕ → Opened → Type 0
+OpenedInto P before after (Rides k) = Listed P before after k
+OpenedInto P before after Missing = ((l : List ℕ) → ¬ (P l)) × (after ≡ zeros before)

@@ -12,7 +12,7 @@ use lib.ListN.{length, getD}
 use Rattle.loops.specs.First.{FirstAt}
 use Rattle.loops.specs.Tells.{Tells}
 use Rattle.loops.specs.TellsLaws.{told-true, told-false}
-use Rattle.kinds.specs.Limits.{noPivot}
+use Rattle.kinds.specs.Limits.{mostStops, noPivot}
 use Rattle.kinds.specs.declared.Label as kinds
 use Rattle.journeys.specs.Tables.{Side, outs, ins, Tables, Entry, of-out, of-in, Label, GoodTables}
 use Rattle.journeys.specs.Check.{Halves}
@@ -95,6 +95,9 @@ module _ {b : List ℕ} {n : ℕ} {side : Side} {s from to hub : ℕ} (m : Momen
 module _ {b : List ℕ} {n : ℕ} {starts : List ℕ} (R : Ready b n starts) where
   pub ready-stops : tablesOf b .stops ≡ n
   ready-stops = tables-stops b ∙ R .file .room .contents .stops
+
+  pub ready-few : tablesOf b .stops ≤ mostStops
+  ready-few = omega (arith, ready-stops, R .file .room .contents .few)
 
   set-at : (side : Side) (s from to : ℕ) → s < n → setOf side s < 2 * n → from ≡ getD starts (setOf side s) 0 → to ≡ getD starts (setOf side s + 1) 0 → SetAt b n side s from to
   set-at side s from to lt h e f = record {
