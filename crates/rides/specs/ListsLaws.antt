@@ -1,7 +1,7 @@
 -- Laws of the asks with rides, for the functions that answer them: what a good ask has, what is listed, and that no second answer and no
 -- second list meet the contract.
 use Prim.Native.Nat.{ℕ, _+_, _*_, _-_, _≤_, _<_}
-use mathlib.Core.Path.{_≡_, refl, sym, ap, ap₂, subst, _∙_}
+use mathlib.Core.Path.{_≡_, refl, sym, ap, subst, subst₂, _∙_}
 use mathlib.Core.List.{List, _++_}
 use mathlib.Core.Bool.{Bool, true, false}
 use native.Mathlib.Omega.{arith}
@@ -123,3 +123,66 @@ module _ (S : Service) (T : Tables) (q : Asked) where
   lists-over before zeroed after (No r) e x =
       let n : length zeroed ≡ length before = ap length e ∙ length-zeros before in
       (subst (λ (m : ℕ). RefusedAs S T q m r) n (x .0), x .1 ∙ same-zeros zeroed before n)
+
+-- ---- no second answer and no second list meet the contract
+
+module _ (S : Service) (T : Tables) (q : Asked) (G : GoodTables T) where
+  abbrev Pair : ℕ → ℕ → Type 0
+  Pair d a = Best (Sketch T (q .from) (q .to)) (q .criterion) d a
+
+  -- the rides of the best pair are one list
+  one-list : {d a e b : ℕ} {l m : List ℕ} → Pair d a → Pair e b → Chosen S T (q .from) (q .to) d a l → Chosen S T (q .from) (q .to) e b m → l ≡ m
+  one-list {m = m} x y f g =
+      let s = best-one (q .criterion) y x in
+      chosen-one G f (subst₂ (λ d a. Chosen S T (q .from) (q .to) d a m) (s .0) (s .1) g)
+
+  same-listed : {d a e b k j : ℕ} → d ≡ e → a ≡ b → k ≡ j → _≡_ {A = Listed} (record { dep = d; arr = a; rides = k }) (record { dep = e; arr = b; rides = j })
+  same-listed e f g = cc
+
+  listed-one : (before x y : List ℕ) (j k : Listed) → ListedAs S T q before x j → ListedAs S T q before y k → (j ≡ k) × (x ≡ y)
+  listed-one before x y j k f g =
+      let s = best-one (q .criterion) (f .best) (g .best) in
+      let e = one-list (f .best) (g .best) (f .chosen) (g .chosen) in
+      (same-listed (s .0) (s .1) (f .count ∙ ap length e ∙ sym (g .count)), f .holds ∙ ap (λ l. l ++ replicate (length before - length l) 0) e ∙ sym (g .holds))
+
+  -- what is listed is not refused
+  not-both : (before after : List ℕ) (j : Listed) (r : Refusal) → ListedAs S T q before after j → ¬ (RefusedAs S T q (length before) r)
+  not-both before after j r f (no-journey e n) = best-not-nothing (q .criterion) (f .best) n
+  not-both before after j r f (missing e d a B n) =
+      let s = best-one (q .criterion) (f .best) B in
+      n (f .rides) (subst₂ (λ d a. Chosen S T (q .from) (q .to) d a (f .rides)) (s .0) (s .1) (f .chosen))
+  not-both before after j r f (short e d a B l C lt) = omega (arith, f .fits, ap length (one-list (f .best) B (f .chosen) C))
+
+  -- and one refusal is given
+  refused-one : (room : ℕ) (r s : Refusal) → RefusedAs S T q room r → RefusedAs S T q room s → r ≡ s
+  refused-one room r s (no-journey e n) (no-journey f m) = e ∙ sym f
+  refused-one room r s (no-journey e n) (missing f d a B m) = absurd (best-not-nothing (q .criterion) B n)
+  refused-one room r s (no-journey e n) (short f d a B l C lt) = absurd (best-not-nothing (q .criterion) B n)
+  refused-one room r s (missing e d a B n) (no-journey f m) = absurd (best-not-nothing (q .criterion) B m)
+  refused-one room r s (missing e d a B n) (missing f d′ a′ B′ m) = e ∙ sym f
+  refused-one room r s (missing e d a B n) (short f d′ a′ B′ l C lt) =
+      let z = best-one (q .criterion) B′ B in
+      absurd (n l (subst₂ (λ d a. Chosen S T (q .from) (q .to) d a l) (z .0) (z .1) C))
+  refused-one room r s (short e d a B l C lt) (no-journey f m) = absurd (best-not-nothing (q .criterion) B m)
+  refused-one room r s (short e d a B l C lt) (missing f d′ a′ B′ m) =
+      let z = best-one (q .criterion) B B′ in
+      absurd (m l (subst₂ (λ d a. Chosen S T (q .from) (q .to) d a l) (z .0) (z .1) C))
+  refused-one room r s (short e d a B l C lt) (short f d′ a′ B′ m C′ lt′) = e ∙ sym f
+
+  good-one : (before m n : List ℕ) (x y : RidesAnswer) → Lists S T (ask.Good q) before m x → Lists S T (ask.Good q) before n y → (x ≡ y) × (m ≡ n)
+  good-one before m n (At j) (At k) f g = let s = listed-one before m n j k f g in (ap At (s .0), s .1)
+  good-one before m n (At j) (No r) f g = absurd (not-both before m j r f (g .0))
+  good-one before m n (No r) (At k) f g = absurd (not-both before n k r g (f .0))
+  good-one before m n (No r) (No s) f g = (ap No (refused-one (length before) r s (f .0) (g .0)), f .1 ∙ sym (g .1))
+
+-- the contract determines the answer and the list, whatever is asked
+pub lists-one : (b : List ℕ) (stops count : ℕ) (runs : List ℕ) (lent from to : ℕ) (w : Wanted) (before m n : List ℕ) (x y : RidesAnswer) →
+    Lists (serviceOf stops count runs) (tablesOf b) (ridesAsked b stops count runs lent from to w) before m x →
+    Lists (serviceOf stops count runs) (tablesOf b) (ridesAsked b stops count runs lent from to w) before n y → (x ≡ y) × (m ≡ n)
+lists-one b stops count runs lent from to w before m n x y =
+    go (ridesAsked b stops count runs lent from to w) (λ q e. good-tables (asked-good b stops count runs lent from to w q e .file))
+  where
+    go : (a : AskRead) → ((q : Asked) → a ≡ ask.Good q → GoodTables (tablesOf b)) →
+        Lists (serviceOf stops count runs) (tablesOf b) a before m x → Lists (serviceOf stops count runs) (tablesOf b) a before n y → (x ≡ y) × (m ≡ n)
+    go (ask.No r) good f g = (f .0 ∙ sym (g .0), f .1 ∙ sym (g .1))
+    go (ask.Good q) good f g = good-one (serviceOf stops count runs) (tablesOf b) q (good q refl) before m n x y f g

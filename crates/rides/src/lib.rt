@@ -158,11 +158,9 @@ pub fn answered(
     list: &mut [u32],
     work: &mut [u16],
 ) -> RidesAnswer
-    ensures {
-        λ r. ⌜ Lists (serviceOf stops «run_count» (now (runs .entry))) (tablesOf (now (tables .entry)))
-            (ridesAsked (now (tables .entry)) stops «run_count» (now (runs .entry)) (length (now (work .entry))) from to w)
-            (now (list .entry)) (now (list .exit)) r ⌝
-    }
+    ensures { λ r. ⌜ Lists (serviceOf stops «run_count» (now (runs .entry))) (tablesOf (now (tables .entry)))
+        (ridesAsked (now (tables .entry)) stops «run_count» (now (runs .entry)) (length (now (work .entry))) from to w)
+        (now (list .entry)) (now (list .exit)) r ⌝ }
     ensures { λ _. ⌜ now (work .exit) ≡ zeros (now (work .entry)) ⌝ }
 {
     loops::zero_u32(list);
@@ -180,4 +178,95 @@ pub fn answered(
             answer
         }
     }
+}
+
+// early(u, v, t): departure at least t; least arrival, then latest departure.
+pub fn early(
+    tables: &[u8],
+    stops: u32,
+    run_count: u32,
+    runs: &[u32],
+    from: u32,
+    to: u32,
+    t: u32,
+    list: &mut [u32],
+    work: &mut [u16],
+) -> RidesAnswer
+    ensures { λ r. ⌜ Lists (serviceOf stops «run_count» (now (runs .entry))) (tablesOf (now (tables .entry)))
+        (ridesAsked (now (tables .entry)) stops «run_count» (now (runs .entry)) (length (now (work .entry))) from to (wanted.Early t))
+        (now (list .entry)) (now (list .exit)) r ⌝ }
+    ensures { λ _. ⌜ now (work .exit) ≡ zeros (now (work .entry)) ⌝ }
+{
+    answered(
+        tables,
+        stops,
+        run_count,
+        runs,
+        from,
+        to,
+        Wanted::Early(t),
+        list,
+        work,
+    )
+}
+
+// late(u, v, t): arrival at most t; latest departure, then least arrival.
+pub fn late(
+    tables: &[u8],
+    stops: u32,
+    run_count: u32,
+    runs: &[u32],
+    from: u32,
+    to: u32,
+    t: u32,
+    list: &mut [u32],
+    work: &mut [u16],
+) -> RidesAnswer
+    ensures { λ r. ⌜ Lists (serviceOf stops «run_count» (now (runs .entry))) (tablesOf (now (tables .entry)))
+        (ridesAsked (now (tables .entry)) stops «run_count» (now (runs .entry)) (length (now (work .entry))) from to (wanted.Late t))
+        (now (list .entry)) (now (list .exit)) r ⌝ }
+    ensures { λ _. ⌜ now (work .exit) ≡ zeros (now (work .entry)) ⌝ }
+{
+    answered(
+        tables,
+        stops,
+        run_count,
+        runs,
+        from,
+        to,
+        Wanted::Late(t),
+        list,
+        work,
+    )
+}
+
+// short(u, v, t, t2): departure at least t, arrival at most t2; least duration, then earliest departure.
+pub fn short(
+    tables: &[u8],
+    stops: u32,
+    run_count: u32,
+    runs: &[u32],
+    from: u32,
+    to: u32,
+    t: u32,
+    t2: u32,
+    list: &mut [u32],
+    work: &mut [u16],
+) -> RidesAnswer
+    ensures { λ r. ⌜ Lists (serviceOf stops «run_count» (now (runs .entry))) (tablesOf (now (tables .entry)))
+        (ridesAsked (now (tables .entry)) stops «run_count» (now (runs .entry)) (length (now (work .entry))) from to (wanted.Short t t2))
+        (now (list .entry)) (now (list .exit)) r ⌝ }
+    ensures { λ _. ⌜ now (work .exit) ≡ zeros (now (work .entry)) ⌝ }
+{
+    answered(
+        tables,
+        stops,
+        run_count,
+        runs,
+        from,
+        to,
+        Wanted::Short(t, t2),
+        list,
+        work,
+    )
 }

@@ -78,9 +78,10 @@ returns-2 c =
     let b = z .before .before .before .before in
     let t = b .before .before .before .before .before in
     let d = t .before .before .before in
-    let j = d .before .before in
-    (rw (sym (j .judge .ensures) ∙ d .judged2 .given .1) (lists-over _ _ _ _ _ _ (b .list-best .result) (j .before .before .before .zero-u32 .ensures) (b .list-best .ensures)),
-    zeros-as _ _ (z .zero-u162 .ensures) (z .zero-u162 .kept .0 ∙ t .starts .kept .1 .1 .0))
+    let j = d .before .before in (
+      rw (sym (j .judge .ensures) ∙ d .judged2 .given .1) (lists-over _ _ _ _ _ _ (b .list-best .result) (j .before .before .before .zero-u32 .ensures) (b .list-best .ensures)),
+      zeros-as _ _ (z .zero-u162 .ensures) (z .zero-u162 .kept .0 ∙ t .starts .kept .1 .1 .0),
+    )
 
 pub answered-spec : {M : Type 1} → statement M
 answered-spec =
