@@ -13,7 +13,7 @@ use Rattle.journeys.specs.Service.{Service}
 use Rattle.journeys.specs.Criteria.{Best, Nothing}
 use Rattle.journeys.specs.Tables.{Tables, Sketch}
 use Rattle.journeys.specs.Rides.{Chosen}
-use Rattle.tables.specs.File.{judgedTables}
+use Rattle.tables.specs.Judged.{judgedTables}
 use Rattle.timetable.specs.Numbers.{judgedOf}
 use Rattle.timetable.specs.declared.Judged.{Judged}
 use Rattle.timetable.specs.declared.Judged.the-variants as numbers

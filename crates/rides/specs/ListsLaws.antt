@@ -28,7 +28,8 @@ use Rattle.journeys.specs.SketchLaws.{sketch-last}
 use Rattle.journeys.specs.RidesLaws.{chosen-one, chosen-short}
 use Rattle.tables.specs.declared.TablesRead.{TablesRead}
 use Rattle.tables.specs.declared.TablesRead.the-variants as tables
-use Rattle.tables.specs.File.{startOf, tablesOf, judgedTables}
+use Rattle.tables.specs.File.{startOf, tablesOf}
+use Rattle.tables.specs.Judged.{judgedTables}
 use Rattle.tables.specs.Good.{GoodFile}
 use Rattle.tables.specs.GoodLaws as tables-laws
 use Rattle.tables.specs.TablesLaws.{good-tables}
