@@ -48,10 +48,10 @@ fn open_run(runs: &[u32], count: usize, s: Span, list: &mut [u32]) -> Opened
     if count <= i {
         return Opened::Missing;
     }
-    if 0 < list.len() {
-        list[0] = i as u32;
+    if list.len() == 0 {
         return Opened::Rides(1);
     }
+    list[0] = i as u32;
     Opened::Rides(1)
 }
 

@@ -1,5 +1,6 @@
 use mathlib.Core.Path.{refl}
 use mathlib.Core.List.{[], _∷_}
+use native.Mathlib.Omega.{arith}
 use Rattle.loops.specs.WrittenLaws.{written-one, written-empty}
 use Rattle.opening.specs.OpenLaws.{run-opens, run-missing}
 use borrow.Author.Needs.{needs}
@@ -18,15 +19,6 @@ returns c =
     let s = f .before .before .before in
     λ stops T. run-missing (s .args .runs .now) (s .args .s) (f .find-run .ensures) (s .pre .1) stops T (c .if1 .taken)
 
-cast-list : tie.Need-cast-list
-cast-list c = search needs
-
-slice-write-list : tie.Need-slice-write-list
-slice-write-list c = search needs
-
-same-length : tie.Need-same-length
-same-length c = search needs
-
 returns-2 : tie.Need-returns-2
 returns-2 c =
     let f = c .before .before in
@@ -36,8 +28,17 @@ returns-2 c =
       rides = f .find-run .result ∷ [];
       are = run-opens (s .args .runs .now) (s .args .s) (f .find-run .ensures) (s .pre .1) stops T (c .before .if1 .left);
       count = refl;
-      holds = written-one _ _ (c .if2 .taken);
+      holds = written-empty _ _ (omega (arith, c .if2 .taken));
     }
+
+cast-list : tie.Need-cast-list
+cast-list c = search needs
+
+slice-write-list : tie.Need-slice-write-list
+slice-write-list c = search needs
+
+same-length : tie.Need-same-length
+same-length c = search needs
 
 returns-3 : tie.Need-returns-3
 returns-3 c =
@@ -48,10 +49,10 @@ returns-3 c =
       rides = f .find-run .result ∷ [];
       are = run-opens (s .args .runs .now) (s .args .s) (f .find-run .ensures) (s .pre .1) stops T (c .before .if1 .left);
       count = refl;
-      holds = written-empty _ _ (c .if2 .left);
+      holds = written-one (f .find-run .result) (s .args .list .now) (omega (arith, c .if2 .left));
     }
 
 pub open-run-spec : {M : Type 1} → statement M
 open-run-spec =
     tie.close
-    (tie.spec find-run-requires returns cast-list slice-write-list same-length returns-2 returns-3)
+    (tie.spec find-run-requires returns returns-2 cast-list slice-write-list same-length returns-3)
