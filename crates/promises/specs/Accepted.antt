@@ -1,9 +1,11 @@
 -- Demand 3, over the contracts of the check and of the asks.
 use Prim.Native.Nat.{ℕ}
-use mathlib.Core.Path.{_≡_, refl, sym, subst, _∙_}
+use mathlib.Core.Path.{_≡_, refl, sym, ap, subst, _∙_}
 use mathlib.Core.List.{List}
 use mathlib.Core.Logic.{_≢_}
 use native.Mathlib.Omega.{arith}
+use lib.ListN.{replicate}
+use Rattle.loops.specs.ZeroLaws.{length-zeros}
 use Rattle.journeys.specs.Service.{Service, GoodService}
 use Rattle.journeys.specs.Tables.{Tables, GoodTables}
 use Rattle.kinds.specs.declared.Refusal.{Refusal}
@@ -30,7 +32,12 @@ use Rattle.verdict.specs.declared.Verdict.{Verdict}
 use Rattle.verdict.specs.declared.Verdict.the-variants as verdict
 use Rattle.verdict.specs.Verdict.{checkRoom, judgedBoth, Outcome, Answered, Checked}
 use Rattle.verdict.specs.VerdictLaws.{accepted-tables, accepts, both-good}
-use Rattle.promises.specs.Demands.{TimetableAnswers, CheckedAsk}
+use Rattle.promises.specs.Demands.{TimetableAnswers, CheckedAsk, TimetableLists, CheckedRides}
+use Rattle.loops.specs.Zero.{zeros}
+use Rattle.rides.specs.declared.RidesAnswer.{RidesAnswer}
+use Rattle.rides.specs.declared.RidesAnswer.the-variants as rides
+use Rattle.rides.specs.Lists.{ridesAsked, Lists}
+use Rattle.rides.specs.AcceptedLaws.{accepted-lists}
 
 -- the two stops of a good ask are different
 asked-apart : (b : List ℕ) (from to : ℕ) (w : Wanted) (q : Asked) → asked b from to w ≡ ask.Good q → q .from ≢ q .to
@@ -88,3 +95,37 @@ module _ (b : List ℕ) (stops count : ℕ) (list : List ℕ) (lent from to : �
 
   pub after-refused : {r : Refusal} → v ≡ verdict.No r → CheckedAsk b stops count list lent from to w (No r)
   after-refused {r} e = record { verdict = verdict.No r; checked = subst (Checked b stops count list lent) e c; answer = refl }
+
+-- Demand 3 for asks with rides
+lists-truly : (b : List ℕ) (stops count : ℕ) (list : List ℕ) (lent from to : ℕ) (w : Wanted) → the.Accepted (serviceOf stops count list) (tablesOf b) →
+    (k : AskRead) → ridesAsked b stops count list lent from to w ≡ k → (before after : List ℕ) (x : RidesAnswer) →
+    Lists (serviceOf stops count list) (tablesOf b) k before after x → TimetableLists (serviceOf stops count list) k before after x
+lists-truly b stops count list lent from to w ok (ask.No r) e before after x f = f
+lists-truly b stops count list lent from to w ok (ask.Good q) e before after x f = accepted-lists b stops count list lent from to w q before after x ok e f
+
+pub accepted-rides : (b : List ℕ) (stops count : ℕ) (list : List ℕ) (lent : ℕ) → Checked b stops count list lent verdict.Accepted →
+    (from to : ℕ) (w : Wanted) (before after : List ℕ) (x : RidesAnswer) →
+    Lists (serviceOf stops count list) (tablesOf b) (ridesAsked b stops count list lent from to w) before after x →
+    TimetableLists (serviceOf stops count list) (ridesAsked b stops count list lent from to w) before after x
+accepted-rides b stops count list lent c from to w before after x f =
+    lists-truly b stops count list lent from to w (accepted-tables b stops count list lent c refl .accepted) (ridesAsked b stops count list lent from to w) refl before after x f
+
+module _ (b : List ℕ) (stops count : ℕ) (list : List ℕ) (lent from to : ℕ) (w : Wanted) {v : Verdict} (c : Checked b stops count list lent v) (before : List ℕ) where
+  -- the room that the check leaves is all zeros, and as long as it was
+  pub rides-accepted : v ≡ verdict.Accepted → {m : ℕ} → m ≡ lent → (after : List ℕ) (x : RidesAnswer) →
+      Lists (serviceOf stops count list) (tablesOf b) (ridesAsked b stops count list m from to w) before after x → CheckedRides b stops count list lent from to w before after x
+  rides-accepted e {m} q after x f =
+      let d = subst (Checked b stops count list lent) e c in
+      record {
+        verdict = verdict.Accepted;
+        checked = d;
+        answer = accepted-rides b stops count list lent d from to w before after x
+            (subst (λ k. Lists (serviceOf stops count list) (tablesOf b) (ridesAsked b stops count list k from to w) before after x) q f);
+      }
+
+  pub rides-refused : {r : Refusal} → v ≡ verdict.No r → {after : List ℕ} → after ≡ zeros before → CheckedRides b stops count list lent from to w before after (rides.No r)
+  rides-refused {r} e z = record { verdict = verdict.No r; checked = subst (Checked b stops count list lent) e c; answer = (refl, z) }
+
+pub zeros-again : (l : List ℕ) → zeros (zeros l) ≡ zeros l
+unfolding zeros
+zeros-again l = ap (λ (k : ℕ). replicate k 0) (length-zeros l)

@@ -16,6 +16,11 @@ use Rattle.verdict.specs.declared.Verdict.{Verdict}
 use Rattle.verdict.specs.declared.Verdict.the-variants as verdict
 use Rattle.timetable.specs.Numbers.{serviceOf}
 use Rattle.verdict.specs.Verdict.{Checked}
+use Rattle.loops.specs.Zero.{zeros}
+use Rattle.rides.specs.declared.RidesAnswer.{RidesAnswer}
+use Rattle.rides.specs.declared.RidesAnswer.the-variants as rides
+use Rattle.rides.specs.Lists.{ridesAsked}
+use Rattle.rides.specs.Accepted.{TrulyLists}
 
 -- "every ask gets the timetable's best": the best among all journeys, or 16 exactly when there is none; what is out of order is refused as it must be
 abbrev pub TimetableAnswers : Service → AskRead → Answer → Type 0
@@ -33,3 +38,17 @@ pub record CheckedAsk (b : List ℕ) (stops count : ℕ) (list : List ℕ) (lent
   pub verdict : Verdict
   pub checked : Checked b stops count list lent verdict
   pub answer : AfterCheck verdict (serviceOf stops count list) (asked b from to w) x
+
+-- the same with rides: "with rides, lent its rooms, the same and the list is such a journey"; 18 never comes
+abbrev pub TimetableLists : Service → AskRead → List ℕ → List ℕ → RidesAnswer → Type 0
+TimetableLists S (ask.No r) before after x = (x ≡ rides.No r) × (after ≡ zeros before)
+TimetableLists S (ask.Good q) before after x = TrulyLists S q before after x
+
+abbrev pub AfterCheckLists : Verdict → Service → AskRead → List ℕ → List ℕ → RidesAnswer → Type 0
+AfterCheckLists verdict.Accepted S q before after x = TimetableLists S q before after x
+AfterCheckLists (verdict.No r) S q before after x = (x ≡ rides.No r) × (after ≡ zeros before)
+
+pub record CheckedRides (b : List ℕ) (stops count : ℕ) (list : List ℕ) (lent from to : ℕ) (w : Wanted) (before after : List ℕ) (x : RidesAnswer) : Type 0 where
+  pub verdict : Verdict
+  pub checked : Checked b stops count list lent verdict
+  pub answer : AfterCheckLists verdict (serviceOf stops count list) (ridesAsked b stops count list lent from to w) before after x
