@@ -1,0 +1,4 @@
+pub mod AskLine
+pub mod AskLineLaws
+pub mod Input
+pub mod InputLaws
