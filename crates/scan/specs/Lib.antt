@@ -3,5 +3,8 @@ pub mod EventLaws
 pub mod Scan
 pub mod Scanned
 pub mod Closed
+pub mod Ordered
+pub mod ShuffledLaws
+pub mod OrderedLaws
 pub mod ScanLaws
 pub mod EarlyLaws
