@@ -6,5 +6,7 @@ pub mod Closed
 pub mod Ordered
 pub mod ShuffledLaws
 pub mod OrderedLaws
+pub mod Lists
 pub mod ScanLaws
+pub mod ListsLaws
 pub mod EarlyLaws

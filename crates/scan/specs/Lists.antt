@@ -1,0 +1,30 @@
+-- What a scan keeps, as lists of numbers.
+use Prim.Native.Nat.{ℕ, _+_, _*_, _≤_, _<_}
+use mathlib.Core.List.{List}
+use lib.ListN.{length, getD}
+use Rattle.kinds.specs.Limits.{mostStops, noPivot}
+use Rattle.scan.specs.Scan.{unreached, notBoarded, Kept}
+use Rattle.scan.specs.declared.Cell.{Cell}
+
+-- four numbers a stop
+abbrev pub cellNumbers : ℕ
+cellNumbers = 4
+
+abbrev pub cellsRoom : ℕ
+cellsRoom = cellNumbers * mostStops
+
+-- a ride or a stop past the end is as it is at the start
+unfoldable pub lowsOf : List ℕ → ℕ → ℕ
+lowsOf l i = getD l i notBoarded
+
+unfoldable pub cellsOf : List ℕ → ℕ → Cell
+cellsOf l x =
+    record {
+      at = getD l (cellNumbers * x) unreached;
+      low = getD l (cellNumbers * x + 1) noPivot;
+      via = getD l (cellNumbers * x + 2) noPivot;
+      changes = getD l (cellNumbers * x + 3) noPivot;
+    }
+
+abbrev pub keptOf : List ℕ → List ℕ → Kept
+keptOf lows cells = record { lows = lowsOf lows; cells = cellsOf cells }
