@@ -3,6 +3,7 @@ pub mod EventLaws
 pub mod Scan
 pub mod Scanned
 pub mod Closed
+pub mod FillLaws
 pub mod Ordered
 pub mod ShuffledLaws
 pub mod OrderedLaws
@@ -10,3 +11,4 @@ pub mod Lists
 pub mod ScanLaws
 pub mod ListsLaws
 pub mod EarlyLaws
+pub mod PromiseLaws
