@@ -68,6 +68,21 @@ never-better (Late t) d a e b h k (inr l) = omega arith
 never-better (Short t t2) d a e b h k (inl l) = omega arith
 never-better (Short t t2) d a e b h k (inr l) = omega arith
 
+-- being better carries over
+pub better-trans : (c : Criterion) (d a e b f g : ℕ) → Better c d a e b → Better c e b f g → Better c d a f g
+better-trans (Early t) d a e b f g (inl x) (inl y) = inl (omega arith)
+better-trans (Early t) d a e b f g (inl x) (inr y) = inl (omega arith)
+better-trans (Early t) d a e b f g (inr x) (inl y) = inl (omega arith)
+better-trans (Early t) d a e b f g (inr x) (inr y) = inr (omega arith)
+better-trans (Late t) d a e b f g (inl x) (inl y) = inl (omega arith)
+better-trans (Late t) d a e b f g (inl x) (inr y) = inl (omega arith)
+better-trans (Late t) d a e b f g (inr x) (inl y) = inl (omega arith)
+better-trans (Late t) d a e b f g (inr x) (inr y) = inr (omega arith)
+better-trans (Short t t2) d a e b f g (inl x) (inl y) = inl (omega arith)
+better-trans (Short t t2) d a e b f g (inl x) (inr y) = inl (omega arith)
+better-trans (Short t t2) d a e b f g (inr x) (inl y) = inl (omega arith)
+better-trans (Short t t2) d a e b f g (inr x) (inr y) = inr (omega arith)
+
 -- one best at most
 pub best-one : {P : ℕ → ℕ → Type 0} (c : Criterion) {d a e b : ℕ} → Best P c d a → Best P c e b → (d ≡ e) × (a ≡ b)
 best-one c {d} {a} {e} {b} x y = better-or-same c d a e b (y .top d a (x .has) (x .fits)) (x .top e b (y .has) (y .fits))

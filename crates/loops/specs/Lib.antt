@@ -9,3 +9,8 @@ pub mod EveryLaws
 pub mod Decide
 pub mod Chain
 pub mod Unless
+pub mod FirstOf
+pub mod FirstOfLaws
+pub mod Filled
+pub mod FilledLaws
+pub mod Rows

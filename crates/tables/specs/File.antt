@@ -6,6 +6,7 @@ use mathlib.Core.Option.{Option, none, some}
 use lib.ListN.{length, getD}
 use lib.Dec.{ltb, leb, eqb}
 use Rattle.loops.specs.Unless.{unless}
+use Rattle.loops.specs.FirstOf.{firstOf}
 use Rattle.kinds.specs.Limits.{mostLabels, noPivot}
 use Rattle.kinds.specs.Refusals.{noTables, tablesLength, labelBad, refusal}
 use Rattle.kinds.specs.Kinds.{isStopCount, labelOf}
@@ -14,8 +15,7 @@ use Rattle.kinds.specs.declared.LabelRead.{LabelRead}
 use Rattle.kinds.specs.declared.LabelRead.the-variants as label
 use Rattle.journeys.specs.Tables.{Side, outs, ins, Tables}
 use Rattle.tables.specs.Format.{formatMark, headerBytes, entryBytes, labelBytes, noPivotByte}
-use Rattle.tables.specs.declared.LabelsRead.{LabelsRead}
-use Rattle.tables.specs.declared.LabelsRead.the-variants.{AllGood, BadAt}
+use Rattle.tables.specs.declared.Bounds.{Bounds}
 use Rattle.tables.specs.declared.TablesRead.{TablesRead}
 use Rattle.tables.specs.declared.TablesRead.the-variants.{Good, No}
 
@@ -77,6 +77,9 @@ tablesOf b =
       pivot = λ k. pivotOf (labelAt b k .pivot);
     }
 
+abbrev pub boundsOf : Tables → Side → ℕ → Bounds
+boundsOf T side s = record { start = T .start side s; end = T .end side s }
+
 -- "Within one set hubs never fall, and for one hub departures and arrivals both strictly rise": label l may come after label m
 unfoldable pub follows : Label → Label → Bool
 follows m l =
@@ -93,36 +96,35 @@ unfoldable pub goodLabel : ℕ → ℕ → ℕ → Label → Label → Bool
 goodLabel n owner i m l =
     cond (isGood (labelOf n owner (l .hub) (l .dep) (l .arr) (l .pivot))) (cond (eqb i 0) true (follows m l)) false
 
--- what was found before stays; else the next is looked at
-abbrev pub orElse : LabelsRead → LabelsRead → LabelsRead
-orElse AllGood next = next
-orElse (BadAt k) next = BadAt k
-
--- the first i labels of a set, one after the other: the first that is not good
-unfoldable pub badIn : List ℕ → ℕ → ℕ → LabelsRead
-badIn b set zero = AllGood
-badIn b set (suc i) =
+-- label i of a set, by its number, where it is not good; the first such label of a set; of all sets, in their order
+unfoldable pub badLabel : List ℕ → ℕ → ℕ → Option ℕ
+badLabel b set i =
     let k = startOf b set + i in
-    orElse (badIn b set i) (unless (goodLabel (stopsOf b) (ownerOf set) i (labelAt b (k - 1)) (labelAt b k)) (BadAt k) AllGood)
+    unless (goodLabel (stopsOf b) (ownerOf set) i (labelAt b (k - 1)) (labelAt b k)) (some k) none
 
--- the sets below `set`, one after the other
-unfoldable pub badUpTo : List ℕ → ℕ → LabelsRead
-badUpTo b zero = AllGood
-badUpTo b (suc set) = orElse (badUpTo b set) (badIn b set (countOf b set))
+abbrev pub badInSet : List ℕ → ℕ → Option ℕ
+badInSet b set = firstOf (badLabel b set) (countOf b set)
 
-abbrev pub judgedLabels : LabelsRead → ℕ → TablesRead
-judgedLabels AllGood n = Good n
-judgedLabels (BadAt k) n = No (refusal labelBad k)
+abbrev pub firstBad : List ℕ → Option ℕ
+firstBad b = firstOf (badInSet b) (2 * stopsOf b)
 
--- 9: "shorter than 2 bytes, byte 0 not 1, or n = 0" (a byte is a stop count unless it is 0); 10: "contents cut short, over 8,192 labels, or
--- length differs"; 11: "label not good", with the first such label as place
-unfoldable pub judgedTables : List ℕ → TablesRead
-judgedTables b =
+abbrev pub judgedBy : Option ℕ → ℕ → TablesRead
+judgedBy none n = Good n
+judgedBy (some k) n = No (refusal labelBad k)
+
+-- 10: "contents cut short, over 8,192 labels, or length differs"; 11: "label not good", and the first such label is the place
+unfoldable pub judgedContents : List ℕ → TablesRead
+judgedContents b =
     let n = stopsOf b in
-    unless (leb headerBytes (length b)) (No (refusal noTables 0))
-    (unless (eqb (getD b 0 0) formatMark) (No (refusal noTables 0))
-    (unless (isStopCount n) (No (refusal noTables 0))
-    (unless (leb (placeOf n 0) (length b)) (No (refusal tablesLength 0))
+    unless (leb (headerBytes + entryBytes * n) (length b)) (No (refusal tablesLength 0))
     (unless (leb (labelsOf b) mostLabels) (No (refusal tablesLength 0))
     (unless (eqb (length b) (placeOf n (labelsOf b))) (No (refusal tablesLength 0))
-    (judgedLabels (badUpTo b (2 * n)) n))))))
+    (judgedBy (firstBad b) n)))
+
+-- 9: "shorter than 2 bytes, byte 0 not 1, or n = 0" (a byte is a stop count unless it is 0)
+unfoldable pub judgedTables : List ℕ → TablesRead
+judgedTables b =
+    unless (leb headerBytes (length b)) (No (refusal noTables 0))
+    (unless (eqb (getD b 0 0) formatMark) (No (refusal noTables 0))
+    (unless (isStopCount (stopsOf b)) (No (refusal noTables 0))
+    (judgedContents b)))

@@ -10,7 +10,8 @@ use lib.ListN.{length, getD}
 use lib.Dec.{ltb}
 use borrow.Author.Tests.{le-ltb, lt-ltb}
 use Rattle.kinds.specs.declared.Label.{Label}
-use Rattle.tables.specs.File.{countOf, startOf, endOf, labelsOf, labelAt, follows}
+use Rattle.tables.specs.File.{stopsOf, countOf, startOf, endOf, labelsOf, labelAt, follows}
+use Rattle.tables.specs.Good.{Contents}
 
 module _ (b : List ℕ) where
   pub start-none : startOf b 0 ≡ 0
@@ -33,6 +34,10 @@ module _ (b : List ℕ) where
   -- each within the labels of the sets up to m
   pub end-within : (m set : ℕ) → set < m → endOf b set ≤ startOf b m
   end-within m set lt = omega (arith, start-more set, start-rises m (set + 1) (omega arith))
+
+-- and within the labels of the file
+pub set-within : {b : List ℕ} {n set : ℕ} → Contents b n → set < 2 * n → endOf b set ≤ labelsOf b
+set-within {b} {n} {set} g lt = end-within b (2 * stopsOf b) set (omega (arith, g .stops))
 
 -- for one hub and a later departure, the arrivals decide
 pub follows-later : (m l : Label) → m .hub ≤ l .hub → l .hub ≤ m .hub → m .dep < l .dep → follows m l ≡ ltb (m .arr) (l .arr)

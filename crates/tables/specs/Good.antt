@@ -6,19 +6,18 @@ use lib.ListN.{length, getD}
 use Rattle.kinds.specs.Limits.{mostStops, mostLabels}
 use Rattle.kinds.specs.KindsLaws.{GoodLabel}
 use Rattle.kinds.specs.declared.Label.{Label}
-use Rattle.tables.specs.Format.{formatMark}
+use Rattle.tables.specs.Format.{formatMark, headerBytes, entryBytes}
 use Rattle.tables.specs.File.{stopsOf, ownerOf, countOf, startOf, labelsOf, placeOf, labelAt}
 
 -- the bytes have n stops, and room for their contents
 pub record Contents (b : List ℕ) (n : ℕ) : Type 0 where
   pub stops : stopsOf b ≡ n
   pub few : n ≤ mostStops
-  pub fits : placeOf n 0 ≤ length b
+  pub fits : headerBytes + entryBytes * n ≤ length b
 
 -- and for just the labels that the contents say
 pub record Room (b : List ℕ) (n : ℕ) : Type 0 where
-  pub stops : stopsOf b ≡ n
-  pub few : n ≤ mostStops
+  pub contents : Contents b n
   pub few-labels : labelsOf b ≤ mostLabels
   pub exact : length b ≡ placeOf n (labelsOf b)
 

@@ -2,3 +2,10 @@ pub mod Format
 pub mod File
 pub mod Good
 pub mod FileLaws
+pub mod JudgeLaws
+pub mod GoodLaws
+pub mod TablesLaws
+pub mod RefusalLaws
+pub mod Write
+pub mod WriteLaws
+pub mod OneFile

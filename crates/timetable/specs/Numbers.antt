@@ -1,14 +1,17 @@
 -- Given numbers: "a stop count, a run count and a list of five numbers a run". What they say, and how they are judged.
-use Prim.Native.Nat.{ℕ, zero, suc, _+_, _*_, _≤_, _<_}
+use Prim.Native.Nat.{ℕ, _+_, _*_, _≤_, _<_}
 use mathlib.Core.List.{List}
 use mathlib.Core.Bool.{true}
+use mathlib.Core.Option.{Option, none, some}
 use lib.ListN.{length, getD}
 use lib.Dec.{leb}
 use Rattle.loops.specs.Unless.{unless}
+use Rattle.loops.specs.FirstOf.{firstOf}
 use Rattle.kinds.specs.Limits.{mostStops, mostRuns, runNumbers}
 use Rattle.kinds.specs.Refusals.{overLimit, roomShort, refusal}
 use Rattle.kinds.specs.Kinds.{isStopCount, isRunCount, runOf}
 use Rattle.kinds.specs.KindsLaws.{GoodRun}
+use Rattle.kinds.specs.declared.Refusal.{Refusal}
 use Rattle.kinds.specs.declared.Run.{Run}
 use Rattle.kinds.specs.declared.RunRead.{RunRead}
 use Rattle.kinds.specs.declared.RunRead.the-variants as run
@@ -27,6 +30,9 @@ runAt list i =
       trip = getD list (runNumbers * i + 4) 0;
     }
 
+abbrev pub rideOf : Run → Ride
+rideOf r = record { from = r .from; to = r .to; dep = r .dep; arr = r .arr }
+
 -- "its runs at their stated minutes, and nothing else, are in force": slot i is run i
 unfoldable pub serviceOf : ℕ → ℕ → List ℕ → Service
 serviceOf stops count list =
@@ -34,7 +40,7 @@ serviceOf stops count list =
       stops = stops;
       slots = count;
       in-force = λ i. true;
-      ride = λ i. record { from = runAt list i .from; to = runAt list i .to; dep = runAt list i .dep; arr = runAt list i .arr };
+      ride = λ i. rideOf (runAt list i);
     }
 
 -- run i among so many stops, or the number of its refusal. Its values are judged as they are.
@@ -42,19 +48,17 @@ unfoldable pub readRun : ℕ → List ℕ → ℕ → RunRead
 readRun stops list i = let r = runAt list i in runOf stops (r .from) (r .to) (r .dep) (r .arr) (r .trip)
 
 -- "by run 5, 6, 7, the run number as place"
-abbrev pub judgedRun : RunRead → ℕ → Judged
-judgedRun (run.Good r) i = Good
-judgedRun (run.Bad number) i = No (refusal number i)
+abbrev pub refusedBy : RunRead → ℕ → Option Refusal
+refusedBy (run.Good r) i = none
+refusedBy (run.Bad number) i = some (refusal number i)
 
--- what was refused before stays; else the next is judged
-abbrev pub andThen : Judged → Judged → Judged
-andThen Good next = next
-andThen (No r) next = No r
+abbrev pub refusedRun : ℕ → List ℕ → ℕ → Option Refusal
+refusedRun stops list i = refusedBy (readRun stops list i) i
 
--- the runs below k, one after the other: the first bad one decides
-unfoldable pub judgedUpTo : ℕ → List ℕ → ℕ → Judged
-judgedUpTo stops list zero = Good
-judgedUpTo stops list (suc k) = andThen (judgedUpTo stops list k) (judgedRun (readRun stops list k) k)
+-- no refusal is good
+abbrev pub judgedBy : Option Refusal → Judged
+judgedBy none = Good
+judgedBy (some r) = No r
 
 -- "8, then 17, then by run": "Refusal 8 is for a stop count of 0 or over 255 or a run count over 4,096; 17 for a list shorter than the runs
 -- need. Numbers beyond are not read." For working room 17 "stands with the timetable's 17": so much is lent, so much is needed.
@@ -64,7 +68,7 @@ judgedOf stops count list lent needed =
     (unless (isRunCount count) (No (refusal overLimit 0))
     (unless (leb (runNumbers * count) (length list)) (No (refusal roomShort 0))
     (unless (leb needed lent) (No (refusal roomShort 0))
-    (judgedUpTo stops list count))))
+    (judgedBy (firstOf (refusedRun stops list) count)))))
 
 -- What the judge promises of good numbers: a good run stands at each number below the count, and the list has it.
 abbrev pub RunGood : ℕ → Run → Type 0

@@ -6,8 +6,9 @@ use kinds::Stop;
 ghost use mathlib.Core.Path.{_≡_};
 ghost use Prim.Native.Nat.{ℕ, _+_, _*_, _≤_, _<_};
 ghost use lib.ListN.{length};
+ghost use Rattle.loops.specs.FirstOf.{firstOf};
 ghost use Rattle.kinds.specs.Limits.{mostStops, mostRuns, runNumbers};
-ghost use Rattle.timetable.specs.Numbers.{runAt, readRun, judgedUpTo, judgedOf, GoodRunAt};
+ghost use Rattle.timetable.specs.Numbers.{runAt, readRun, refusedRun, judgedBy, judgedOf, GoodRunAt};
 
 pub enum Judged {
     Good,
@@ -36,7 +37,7 @@ fn judge_runs(stops: u32, runs: &[u32], count: usize) -> Judged
     requires { ⌜ stops ≤ mostStops ⌝ }
     requires { ⌜ count ≤ mostRuns ⌝ }
     requires { ⌜ runNumbers * count ≤ length (now runs) ⌝ }
-    ensures { λ r. ⌜ r ≡ judgedUpTo stops (now (runs .entry)) count ⌝ }
+    ensures { λ r. ⌜ r ≡ judgedBy (firstOf (refusedRun stops (now (runs .entry))) count) ⌝ }
 {
     let mut i = 0;
     while i < count {

@@ -6,28 +6,18 @@ use Rattle.tables.proofs.label_at.Statement.{statement}
 use Rattle.tables.proofs.label_at.Tie as tie
 use Rattle.tables.proofs.label_at.Reads as reads
 use Rattle.tables.proofs.label_at.Lts as lts
+use Rattle.tables.proofs.file_length.Reads as file-length-reads
 use Rattle.tables.proofs.pivot_read.Reads as pivot-read-reads
 use Rattle.tables.proofs.two_at.Reads as two-at-reads
 
-mul-at : tie.Need-mul-at
-mul-at c = search needs
+file-length-requires : tie.Need-file-length-requires
+file-length-requires c κs = search needs
 
-add-at : tie.Need-add-at
-add-at c = search needs
+shared-slice-read-t6 : tie.Need-shared-slice-read-t6
+shared-slice-read-t6 c = search needs
 
-mul-at-2 : tie.Need-mul-at-2
-mul-at-2 c = search needs
-
-add-at-2 : tie.Need-add-at-2
-add-at-2 c = search needs
-
-shared-slice-read-t10 : tie.Need-shared-slice-read-t10
-shared-slice-read-t10 c = search needs
-
-cast-t11 : tie.Need-cast-t11
-cast-t11 c =
-    let a = c .before .before .args in
-    omega (arith, c .shared-slice-known2 .given (2 + 4 * a .n + 6 * a .k))
+cast-t7 : tie.Need-cast-t7
+cast-t7 c = omega (arith, c .shared-slice-known2 .given (c .before .file-length .result))
 
 add-two-at : tie.Need-add-two-at
 add-two-at c = search needs
@@ -58,12 +48,9 @@ pub label-at-spec : {M : Type 1} → statement M
 label-at-spec =
     tie.close
     (tie.spec
-    mul-at
-    add-at
-    mul-at-2
-    add-at-2
-    shared-slice-read-t10
-    cast-t11
+    file-length-requires
+    shared-slice-read-t6
+    cast-t7
     add-two-at
     two-at-requires
     add-two-at-2

@@ -1,0 +1,42 @@
+-- What the join looks at: each single label, and for each out-label of u its partner among the in-labels of v.
+use Prim.Native.Nat.{ℕ, _≤_, _<_}
+use mathlib.Core.Path.{_≡_}
+use mathlib.Core.Logic.{_⊎_}
+use Rattle.loops.specs.First.{Passed, FirstAt}
+use Rattle.journeys.specs.Tables.{Tables, outs, ins}
+
+-- in-label m comes at or after the place of a label with this hub that leaves at or after this minute
+abbrev pub Past : Tables → ℕ → ℕ → ℕ → Type 0
+Past T hub minute m = (hub < T .hub m) ⊎ ((T .hub m ≡ hub) × (minute ≤ T .dep m))
+
+-- (d, a) comes of the out-label k of u: its own pair where its hub is v, else with its partner's arrival
+pub data OutCandidate (T : Tables) (v k d a : ℕ) : Type 0 where
+  own : T .hub k ≡ v → T .dep k ≡ d → T .arr k ≡ a → OutCandidate T v k d a
+  met : (m : ℕ) → FirstAt (Past T (T .hub k) (T .arr k)) (T .start ins v) (T .end ins v) m → m < T .end ins v → T .hub m ≡ T .hub k →
+      T .dep k ≡ d → T .arr m ≡ a → OutCandidate T v k d a
+
+-- (d, a) comes of an out-label of u below `to`
+pub record FromOuts (T : Tables) (u v to d a : ℕ) : Type 0 where
+  pub label : ℕ
+  pub low : T .start outs u ≤ label
+  pub high : label < to
+  pub is : OutCandidate T v label d a
+
+-- (d, a) is the pair of an in-label of v below `to` whose hub is u
+pub record FromIns (T : Tables) (u v to d a : ℕ) : Type 0 where
+  pub label : ℕ
+  pub low : T .start ins v ≤ label
+  pub high : label < to
+  pub hub : T .hub label ≡ u
+  pub dep : T .dep label ≡ d
+  pub arr : T .arr label ≡ a
+
+-- what was looked at
+abbrev pub Candidate : Tables → ℕ → ℕ → ℕ → ℕ → ℕ → ℕ → Type 0
+Candidate T u v outTo inTo d a = FromOuts T u v outTo d a ⊎ FromIns T u v inTo d a
+
+-- the partners of out-label i and of all after it are to be looked for from j on; and no in-label before j has a hub as high as u
+pub record Behind (T : Tables) (u v i j : ℕ) : Type 0 where
+  pub low : T .start ins v ≤ j
+  pub passed : (k : ℕ) → i ≤ k → k < T .end outs u → Passed (Past T (T .hub k) (T .arr k)) (T .start ins v) j
+  pub hubs : (m : ℕ) → T .start ins v ≤ m → m < j → T .hub m < u

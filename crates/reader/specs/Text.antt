@@ -1,0 +1,91 @@
+-- What a timetable text means: line by line, with what was read so far; "The first bad line decides."
+use Prim.Native.Nat.{ℕ, zero, suc, _+_, _*_, _-_}
+use mathlib.Core.Path.{_≡_}
+use mathlib.Core.List.{List, [], _∷_}
+use mathlib.Core.Bool.{Bool, true, false, cond}
+use lib.ListN.{length, set, replicate}
+use lib.Dec.{ltb, leb}
+use Rattle.kinds.specs.Limits.{runNumbers, runsRoom, codesRoom, mostText}
+use Rattle.kinds.specs.Refusals.{refusal, firstLine, lineShape, overLimit, roomShort}
+use Rattle.kinds.specs.declared.Code.{Code}
+use Rattle.kinds.specs.declared.Run.{Run}
+use Rattle.words.specs.Words.{lf, seek, beginsB}
+use Rattle.lookup.specs.Lookup.{putCode}
+use Rattle.lines.specs.Lines.{lineOf}
+use Rattle.lines.specs.declared.Line.{Line}
+use Rattle.lines.specs.declared.Line.the-variants as line
+use Rattle.reader.specs.declared.ReadAnswer.{ReadAnswer}
+use Rattle.reader.specs.declared.ReadAnswer.the-variants.{Read, No}
+
+-- What was read so far: the number of the line to come, the stops, the runs, and the two lists that are filled, each as long as its room.
+pub record Sofar : Type 0 where
+  pub line : ℕ
+  pub stops : ℕ
+  pub runs : ℕ
+  pub codes : List ℕ
+  pub numbers : List ℕ
+
+-- a text was read whole, or refused with a number and a place
+pub data Outcome : Type 0 where
+  whole : Sofar → Outcome
+  bad : ℕ → ℕ → Outcome
+
+-- the five numbers of run k put in
+unfoldable pub putRun : List ℕ → ℕ → Run → List ℕ
+putRun l k r =
+    set (set (set (set (set l (runNumbers * k) (r .from)) (runNumbers * k + 1) (r .to)) (runNumbers * k + 2) (r .dep)) (runNumbers * k + 3) (r .arr)) (runNumbers * k + 4) (r .trip)
+
+-- "The stops stand in rank order: the first is stop 0"
+abbrev pub withStop : Sofar → Code → Sofar
+withStop b c =
+    record { line = b .line + 1; stops = b .stops + 1; runs = b .runs; codes = putCode (b .codes) (b .stops) (c .start) (c .length); numbers = b .numbers }
+
+-- "Runs are numbered from 0 in file order."
+abbrev pub withRun : Sofar → Run → Sofar
+withRun b r =
+    record { line = b .line + 1; stops = b .stops; runs = b .runs + 1; codes = b .codes; numbers = putRun (b .numbers) (b .runs) r }
+
+-- What a line leads to; its LF stands at e, and go reads on. "then "end" and nothing after": bytes after it are refusal 2 at the line where they are met.
+abbrev pub next : (ℕ → Sofar → Outcome) → List ℕ → ℕ → Sofar → Line → Outcome
+next go s e b (line.Stop c) = go (e + 1) (withStop b c)
+next go s e b (line.Run r) = go (e + 1) (withRun b r)
+next go s e b line.End = cond (ltb (e + 1) (length s)) (bad lineShape (b .line + 1)) (whole b)
+next go s e b (line.Bad n) = bad n (b .line)
+
+-- The lines from a on; f is at least the number of bytes that are left, of which each line takes one or more.
+-- "a line without LF" is refusal 2 "at the line where [it is] met and before any other refusal of that line";
+-- a missing "end" is such a line, of no bytes, after the last.
+unfoldable pub readFrom : ℕ → List ℕ → ℕ → Sofar → Outcome
+readFrom zero s a b = bad lineShape (b .line)
+readFrom (suc f) s a b =
+    let e : ℕ = seek lf s a (length s) in
+    cond (leb (length s) e) (bad lineShape (b .line)) (next (readFrom f s) s e b (lineOf s (b .codes) (b .stops) (b .runs) a e))
+
+-- "timetable 1" and LF
+abbrev pub firstWord : List ℕ
+firstWord = 116 ∷ 105 ∷ 109 ∷ 101 ∷ 116 ∷ 97 ∷ 98 ∷ 108 ∷ 101 ∷ 32 ∷ 49 ∷ 10 ∷ []
+
+-- line 2 is to come, and the rooms, of these lengths, are all zero
+abbrev pub start : ℕ → ℕ → Sofar
+start runs codes = record { line = 2; stops = 0; runs = 0; codes = replicate codes 0; numbers = replicate runs 0 }
+
+-- The text's meaning, read into rooms of these lengths. "Reader: 17, 8 for text length, then by line"; "Line 1 has only refusal 1".
+unfoldable pub readText : List ℕ → ℕ → ℕ → Outcome
+readText s runs codes =
+    cond (ltb runs runsRoom) (bad roomShort 0)
+    (cond (ltb codes codesRoom) (bad roomShort 0)
+    (cond (ltb mostText (length s)) (bad overLimit 0)
+    (cond (beginsB s 0 (length s) firstWord) (readFrom (length s) s (length firstWord) (start runs codes)) (bad firstLine 1))))
+
+-- the answer, and what each room holds in the end: "A refusal carries number and place only .., and writable buffers are all zero."
+abbrev pub answerOf : Outcome → ReadAnswer
+answerOf (whole b) = Read (record { stops = b .stops; runs = b .runs })
+answerOf (bad n p) = No (refusal n p)
+
+abbrev pub runsOf : Outcome → ℕ → List ℕ
+runsOf (whole b) room = b .numbers
+runsOf (bad n p) room = replicate room 0
+
+abbrev pub codesOf : Outcome → ℕ → List ℕ
+codesOf (whole b) room = b .codes
+codesOf (bad n p) room = replicate room 0

@@ -1,0 +1,85 @@
+use mathlib.Core.Path.{_∙_, sym}
+use denote.Ref.{now}
+use borrow.Author.Tests.{eq-eqb, ne-eqb, lt-ltb, le-ltb}
+use Rattle.words.specs.Words.{numberAt, isNumber, valueOf}
+use Rattle.words.specs.Digits.{digits-value, digits-other, zero-value}
+use borrow.Author.Needs.{needs}
+use Rattle.words.proofs.number_at.Statement.{statement}
+use Rattle.words.proofs.number_at.Tie as tie
+use Rattle.words.proofs.number_at.Reads as reads
+use Rattle.words.proofs.number_at.Lts as lts
+use Rattle.words.proofs.digits.Reads as digits-reads
+use Rattle.words.proofs.seek.Reads as seek-reads
+
+seek-requires : tie.Need-seek-requires
+seek-requires c κs = search needs
+
+sub-n : tie.Need-sub-n
+sub-n c = search needs
+
+returns : tie.Need-returns
+unfolding numberAt isNumber
+returns c = simp (← c .before .seek .ensures .is, eq-eqb _ _ (c .if1 .taken))
+
+returns-2 : tie.Need-returns-2
+unfolding numberAt isNumber
+returns-2 c =
+    let b = c .before in
+    simp (← b .before .seek .ensures .is, ne-eqb _ _ (b .if1 .left), lt-ltb _ _ (c .if2 .taken))
+
+shared-slice-read-if3 : tie.Need-shared-slice-read-if3
+shared-slice-read-if3 c = search needs
+
+returns-3 : tie.Need-returns-3
+unfolding numberAt isNumber
+returns-3 c =
+    let b = c .before .before .before in
+    simp (← b .before .before .seek .ensures .is, eq-eqb _ _ (c .before .if3 .taken), c .if4 .taken, zero-value (now (b .before .before .before .before .args .s)) (b .before .before .before .before .args .from) (c .before .if3 .taken))
+
+returns-4 : tie.Need-returns-4
+unfolding numberAt isNumber
+returns-4 c =
+    let b = c .before .before .before in
+    simp (← b .before .before .seek .ensures .is, ne-eqb _ _ (b .before .if1 .left), le-ltb _ _ (b .if2 .left), eq-eqb _ _ (c .before .if3 .taken), ne-eqb _ _ (c .if4 .left))
+
+digits-requires : tie.Need-digits-requires
+digits-requires c κs = search needs
+
+enum-known-d : tie.Need-enum-known-d
+enum-known-d c = search needs
+
+enum-told : tie.Need-enum-told
+enum-told c = search needs
+
+returns-5 : tie.Need-returns-5
+unfolding numberAt isNumber
+returns-5 c =
+    let m = c .before .before .before in
+    let b = m .before .before .before in
+    let d = digits-value _ _ _ _ (sym (m .digits .ensures) ∙ c .before .d .given .1) in
+    simp (← b .before .before .seek .ensures .is, ne-eqb _ _ (b .before .if1 .left), le-ltb _ _ (b .if2 .left), ne-eqb _ _ (m .before .if3 .left), d .0, d .1)
+
+returns-6 : tie.Need-returns-6
+unfolding numberAt isNumber
+returns-6 c =
+    let m = c .before .before in
+    let b = m .before .before .before in
+    let d = digits-other _ _ _ (sym (m .digits .ensures) ∙ c .enum-told .given .1) in
+    simp (← b .before .before .seek .ensures .is, ne-eqb _ _ (b .before .if1 .left), le-ltb _ _ (b .if2 .left), ne-eqb _ _ (m .before .if3 .left), d)
+
+pub number-at-spec : {M : Type 1} → statement M
+number-at-spec =
+    tie.close
+    (tie.spec
+    seek-requires
+    sub-n
+    returns
+    returns-2
+    shared-slice-read-if3
+    returns-3
+    returns-4
+    digits-requires
+    enum-known-d
+    enum-told
+    returns-5
+    returns-6)

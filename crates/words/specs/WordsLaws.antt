@@ -1,0 +1,63 @@
+-- Laws of the words: the turns of the loops.
+use Prim.Native.Nat.{ℕ, zero, suc, _+_, _-_, _≤_, _<_}
+use mathlib.Core.Path.{_≡_, refl, ap, _∙_}
+use mathlib.Core.List.{List}
+use mathlib.Core.Bool.{Bool, true, false, cond}
+use native.Mathlib.Omega.{arith}
+use lib.ListN.{length, getD}
+use lib.Dec.{ltb, leb, eqb}
+use borrow.Author.Tests.{eq-eqb, ne-eqb, ltb-false}
+use Rattle.loops.specs.Chain.{past}
+use Rattle.kinds.specs.Refusals.{lineShape}
+use Rattle.words.specs.Words.{space, seekIn, seek, beginsB, isNumber, numberAt}
+use Rattle.words.specs.declared.NumberRead.{NumberRead}
+use Rattle.words.specs.declared.NumberRead.the-variants.{Good, Bad}
+
+module _ (x : ℕ) (s : List ℕ) (k e : ℕ) where
+  seek-turn : k < e → seek x s k e ≡ cond (eqb (getD s k 0) x) k (seek x s (k + 1) e)
+  unfolding seek seekIn
+  seek-turn lt =
+      let n : e - k ≡ suc (e - (k + 1)) = omega arith in
+      ap (λ (m : ℕ). seekIn x s k m) n
+
+  pub seek-here : k < e → getD s k 0 ≡ x → seek x s k e ≡ k
+  seek-here lt h = rw (seek-turn lt, eq-eqb _ _ h)
+
+  pub seek-more : k < e → (getD s k 0 ≡ x → ⊥) → seek x s k e ≡ seek x s (k + 1) e
+  seek-more lt h = rw (seek-turn lt, ne-eqb _ _ h)
+
+  pub seek-end : e ≤ k → seek x s k e ≡ k
+  unfolding seek seekIn
+  seek-end le =
+      let n : e - k ≡ 0 = omega arith in
+      ap (λ (m : ℕ). seekIn x s k m) n
+
+-- the place is in the stretch, or at its end
+seek-in : (x : ℕ) (s : List ℕ) (a n : ℕ) → (a ≤ seekIn x s a n) × (seekIn x s a n ≤ a + n)
+unfolding seekIn
+seek-in x s a zero = (omega arith, omega arith)
+seek-in x s a (suc n) = go (eqb (getD s a 0) x) (seek-in x s (a + 1) n)
+  where
+    go : (b : Bool) → (a + 1 ≤ seekIn x s (a + 1) n) × (seekIn x s (a + 1) n ≤ a + 1 + n) →
+        (a ≤ cond b a (seekIn x s (a + 1) n)) × (cond b a (seekIn x s (a + 1) n) ≤ a + suc n)
+    go true h = (omega arith, omega arith)
+    go false h = (omega (arith, h .0), omega (arith, h .1))
+
+pub seek-low : (x : ℕ) (s : List ℕ) (a e : ℕ) → a ≤ seek x s a e
+unfolding seek
+seek-low x s a e = seek-in x s a (e - a) .0
+
+pub seek-high : (x : ℕ) (s : List ℕ) (a e : ℕ) → a ≤ e → seek x s a e ≤ e
+unfolding seek
+seek-high x s a e h = omega (arith, seek-in x s a (e - a) .1)
+
+-- "any other form is refusal 2", and no other refusal
+pub number-bad : (s : List ℕ) (a e n : ℕ) → numberAt s a e ≡ Bad n → n ≡ lineShape
+unfolding numberAt
+number-bad s a e n h = let z = past (isNumber s a (seek space s a e - a)) h (λ x. let y : _≡_ {A = ℕ} 0 1 = cc in omega arith) in let f = z .1 in cc
+
+-- a stretch that begins with a word is as long as the word at least
+pub begins-long : (s : List ℕ) (a e : ℕ) (w : List ℕ) → beginsB s a e w ≡ true → length w ≤ e - a
+unfolding beginsB
+begins-long s a e w h =
+    ltb-false (e - a) (length w) (past (ltb (e - a) (length w)) h (λ x. let y : _≡_ {A = ℕ} 0 1 = cc in omega arith) .0)

@@ -1,0 +1,189 @@
+//! Tests of `kiosk_build`.
+
+use crate::calls::{build, build_expecting, Given};
+use crate::Builds;
+use generate::days::{self, Day};
+use generate::{each_seed, example, vectors, Rng};
+use oracle::calls::{self as right, Numbers, Room};
+
+/// Room for any tables there can be, and some.
+const ANY_TABLES: usize = 2 + 4 * 255 + 6 * 8_192 + 11;
+
+pub fn example<S: Builds>() {
+    let given = Given::new(&example::day());
+    let (answer, tables) = ([0, 54, 6, 0], example::tables());
+    build_expecting::<S>(&given, S::build_room(), (answer, tables.clone()));
+    let mut longer = tables;
+    longer.resize(90, 0);
+    build_expecting::<S>(&given, S::build_room() + 3, (answer, longer));
+}
+
+/// Numbers with the refusals they must have, and days where the natural program
+/// is wrong.
+pub fn vectors<S: Builds>() {
+    for v in vectors::numbers() {
+        let given = Given { stops: v.stops, run_count: v.run_count, runs: v.runs };
+        let answer = build::<S>(&given, ANY_TABLES, S::build_room());
+        let refusal = if answer[0] == 0 { (0, 0) } else { (answer[0], answer[1]) };
+        assert_eq!(refusal, v.refusal);
+    }
+    for asked in vectors::asked() {
+        build::<S>(&Given::new(&asked.day), 300, S::build_room());
+    }
+    for case in example::cases() {
+        build::<S>(&Given::new(&case.day), 300, S::build_room());
+    }
+}
+
+/// 17 exactly when less working room, a shorter list or too few bytes are lent.
+pub fn room<S: Builds>() {
+    let needs = S::build_room();
+    let good = Given::new(&example::day());
+    let mut cut = good.clone();
+    cut.runs.pop();
+    let mut longer = good.clone();
+    longer.runs.extend([u32::MAX, 0, 7, 7, 7, 7]);
+    let mut bad = good.clone();
+    bad.runs[28] = 9_999;
+    let mut none = good.clone();
+    none.stops = 0;
+    for given in [&good, &cut, &longer, &bad, &none] {
+        for room in [0, 1, needs / 2, needs.saturating_sub(1), needs, needs + 1, needs + 500] {
+            for tables in [0, 1, 2, 18, 53, 54, 55, 1_000] {
+                build::<S>(given, tables, room);
+            }
+        }
+    }
+}
+
+/// Builds with the tables' exact length, or now and then another.
+fn built<S: Builds>(rng: &mut Rng, day: &Day) {
+    let given = Given::new(day);
+    let numbers = Numbers { stops: given.stops, run_count: given.run_count, runs: &given.runs };
+    let room = Room { lent: S::build_room(), needs: S::build_room() };
+    let (answer, mut tables) = right::build(numbers, ANY_TABLES, room);
+    let length = if answer[0] == 0 { answer[1] as usize } else { 100 };
+    tables.truncate(length);
+    build_expecting::<S>(&given, S::build_room(), (answer, tables.clone()));
+    if rng.one_in(8) {
+        let short = rng.below(length as u32) as usize;
+        let seventeen = if answer[0] == 0 { [17, 0, 0, 0] } else { answer };
+        build_expecting::<S>(&given, S::build_room(), (seventeen, vec![0; short]));
+        build_expecting::<S>(&given, S::build_room(), (seventeen, vec![0; length - 1]));
+        tables.resize(length + rng.between(1, 300) as usize, 0);
+        build_expecting::<S>(&given, S::build_room() + 17, (answer, tables));
+    }
+}
+
+pub fn tiny_days<S: Builds>() {
+    each_seed("build::tiny_days", 8_000, |rng| {
+        let day = days::tiny(rng);
+        built::<S>(rng, &day);
+    });
+}
+
+pub fn ties<S: Builds>() {
+    each_seed("build::ties", 4_000, |rng| {
+        let day = days::ties(rng);
+        built::<S>(rng, &day);
+    });
+}
+
+pub fn there_and_back<S: Builds>() {
+    each_seed("build::there_and_back", 3_000, |rng| {
+        let day = days::there_and_back(rng);
+        built::<S>(rng, &day);
+    });
+}
+
+pub fn middling_days<S: Builds>() {
+    each_seed("build::middling_days", 400, |rng| {
+        let day = days::middling(rng);
+        built::<S>(rng, &day);
+    });
+}
+
+pub fn any_small_day<S: Builds>() {
+    each_seed("build::any_small_day", 1_000, |rng| {
+        let day = days::small(rng);
+        built::<S>(rng, &day);
+    });
+}
+
+pub fn damaged_numbers<S: Builds>() {
+    each_seed("build::damaged_numbers", 6_000, |rng| {
+        let day = days::ties(rng);
+        let mut given = Given::new(&days::damaged(rng, &day));
+        match rng.below(8) {
+            0 => given.stops = rng.pick(&days::STOP_COUNTS),
+            1 => given.run_count = rng.pick(&days::RUN_COUNTS),
+            2 => {
+                let len = rng.below(given.runs.len() as u32 + 1) as usize;
+                given.runs.truncate(len);
+            }
+            3 => given.runs.extend([0, u32::MAX, 300, 3, 2, 1]),
+            _ => {}
+        }
+        build::<S>(&given, 2_000, S::build_room());
+    });
+}
+
+pub fn counts_at_the_edges<S: Builds>() {
+    let mut rng = Rng::new(3);
+    let full = days::one_pair(&mut rng).numbers();
+    for stops in days::STOP_COUNTS {
+        for run_count in days::RUN_COUNTS {
+            for len in [0, 4, 5, 20_474, 20_475, 20_479, 20_480] {
+                let given = Given { stops, run_count, runs: full[..len].to_vec() };
+                // The long days that are good are built in another test.
+                if stops == 2 && len >= 20_475 && run_count == 4_096 {
+                    continue;
+                }
+                build::<S>(&given, 10, S::build_room());
+            }
+        }
+    }
+}
+
+pub fn label_limit<S: Builds>() {
+    for labels in [8_191, 8_192, 8_193, 8_194, 9_000] {
+        let given = Given::new(&days::with_labels(labels));
+        let length = 2 + 4 * 12 + 6 * labels as usize;
+        for tables in [0, length - 1, length, length + 1] {
+            let answer = build::<S>(&given, tables, S::build_room());
+            let number = match labels {
+                0..=8_192 if tables < length => 17,
+                0..=8_192 => 0,
+                _ => 22,
+            };
+            assert_eq!(answer[0], number);
+        }
+    }
+}
+
+pub fn long_chain<S: Builds>() {
+    let answer = build::<S>(&Given::new(&days::chain()), ANY_TABLES, S::build_room());
+    assert_eq!(answer[0], 0);
+}
+
+pub fn days_at_the_limits<S: Builds>() {
+    let mut rng = Rng::new(5);
+    for day in [
+        days::city(&mut rng),
+        days::fullest(),
+        days::sprawl(&mut rng),
+        days::one_pair(&mut rng),
+        days::many_ties(&mut rng),
+        days::shuttle(),
+        days::random(
+            &mut rng,
+            days::Shape { stops: 3, runs: 4_096, first: 0, last: 2_879, longest: 2_879 },
+        ),
+        days::random(
+            &mut rng,
+            days::Shape { stops: 255, runs: 600, first: 0, last: 2_879, longest: 300 },
+        ),
+    ] {
+        built::<S>(&mut rng, &day);
+    }
+}
