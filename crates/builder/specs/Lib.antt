@@ -1,0 +1,6 @@
+pub mod Count
+pub mod Labels
+pub mod Found
+pub mod CountLaws
+pub mod LabelLaws
+pub mod TallyLaws
