@@ -4,3 +4,5 @@ pub mod Found
 pub mod CountLaws
 pub mod LabelLaws
 pub mod TallyLaws
+pub mod Walk
+pub mod WalkLaws
