@@ -6,3 +6,4 @@ pub mod LabelLaws
 pub mod TallyLaws
 pub mod Walk
 pub mod WalkLaws
+pub mod StepLaws
