@@ -5,9 +5,8 @@ use std::path::Path;
 
 fn main() {
     let areas = ["READ", "BUILD", "CHECK", "ASKS", "RIDES"];
-    let wanted = areas.iter().any(|area| {
-        std::env::var_os(format!("CARGO_FEATURE_{area}")).is_some()
-    });
+    let wanted =
+        areas.iter().any(|area| std::env::var_os(format!("CARGO_FEATURE_{area}")).is_some());
     println!("cargo:rerun-if-changed=build.rs");
     if !wanted {
         return;

@@ -59,9 +59,7 @@ pub fn journey(input: &[u8]) -> Vec<u8> {
                 b"early" => {
                     early_rides(tables, stops, count, &runs, from, to, t, list, work, &mut a)
                 }
-                b"late" => {
-                    late_rides(tables, stops, count, &runs, from, to, t, list, work, &mut a)
-                }
+                b"late" => late_rides(tables, stops, count, &runs, from, to, t, list, work, &mut a),
                 _ => short_rides(tables, stops, count, &runs, from, to, t, t2, list, work, &mut a),
             }
             match a[0] {

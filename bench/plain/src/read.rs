@@ -144,14 +144,9 @@ fn lines<'t, D: Directory<'t>>(
 /// The five numbers of a run line after its word, or the refusal's number.
 fn run<'t, D: Directory<'t>>(fields: &[u8], stops: &D) -> Result<[u32; 5], u32> {
     let mut fields = fields.split(|b| *b == b' ');
-    let (Some(from), Some(to), Some(dep), Some(arr), Some(trip), None) = (
-        fields.next(),
-        fields.next(),
-        fields.next(),
-        fields.next(),
-        fields.next(),
-        fields.next(),
-    ) else {
+    let (Some(from), Some(to), Some(dep), Some(arr), Some(trip), None) =
+        (fields.next(), fields.next(), fields.next(), fields.next(), fields.next(), fields.next())
+    else {
         return Err(2);
     };
     let (dep, arr, trip) = (number(dep)?, number(arr)?, number(trip)?);

@@ -16,3 +16,5 @@ pub mod RidesLaws
 pub mod EarliestLaws
 pub mod Example
 pub mod ExampleLaws
+pub mod Count
+pub mod CountLaws

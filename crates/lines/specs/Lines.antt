@@ -1,10 +1,9 @@
 -- What one line of the timetable text says. The line is the stretch of the text s from a up to e, where its LF stands.
-use Prim.Native.Nat.{ℕ, _+_, _-_, _≤_}
+use Prim.Native.Nat.{ℕ, _+_, _-_}
 use mathlib.Core.List.{List, [], _∷_}
 use mathlib.Core.Bool.{Bool, true, false, cond, not}
-use lib.ListN.{length}
 use lib.Dec.{ltb, leb, eqb}
-use Rattle.kinds.specs.Limits.{mostStops, mostRuns, mostText}
+use Rattle.kinds.specs.Limits.{mostStops, mostRuns}
 use Rattle.kinds.specs.Refusals.{lineShape, codeBad, codeRepeated, overLimit}
 use Rattle.kinds.specs.Kinds.{runOf}
 use Rattle.kinds.specs.declared.RunRead.{RunRead}
@@ -24,13 +23,7 @@ use Rattle.lines.specs.declared.FieldsRead.the-variants as fields
 use Rattle.lines.specs.declared.Line.{Line}
 use Rattle.lines.specs.declared.Line.the-variants.{Stop, Run, End, Bad}
 
--- a stretch of a text that is not too long
-pub record Stretch (s : List ℕ) (a e : ℕ) : Type 0 where
-  pub low : a ≤ e
-  pub high : e ≤ length s
-  pub short : length s ≤ mostText
-
--- a number was read, and go says what comes of it; "any other form is refusal 2"
+-- what comes of a number that was read; "any other form is refusal 2"
 abbrev pub numbered : NumberRead → (Number → NumbersRead) → NumbersRead
 numbered (number.Good x) go = go x
 numbered (number.Bad n) go = numbers.Bad n
@@ -46,6 +39,7 @@ numbersAt s a e =
     cond (ltb (trip .end) e) (numbers.Bad lineShape)
     (numbers.Good (record { dep = dep .value; arr = arr .value; trip = trip .value })))))))
 
+-- the fields of a run line whose codes and numbers were read
 abbrev pub fielded : Field → Field → NumbersRead → FieldsRead
 fielded from to (numbers.Good x) = fields.Good (record { from = from; to = to; numbers = x })
 fielded from to (numbers.Bad n) = fields.Bad n
@@ -84,6 +78,7 @@ runFields s codes stops runs f =
     (f .numbers .arr)
     (f .numbers .trip))
 
+-- what comes of a run line's fields that were read
 abbrev pub shaped : FieldsRead → (Fields → Line) → Line
 shaped (fields.Good f) go = go f
 shaped (fields.Bad n) go = Bad n
@@ -102,10 +97,10 @@ runWord = 114 ∷ 117 ∷ 110 ∷ 32 ∷ []
 abbrev pub endWord : List ℕ
 endWord = 101 ∷ 110 ∷ 100 ∷ []
 
--- a line after the first, of which there is one kind more than three: "a line out of place" and any other is refusal 2
+-- A line after the first: a run line, a stop line, "end" after one or more stops; "a line out of place" and any other line is refusal 2.
 unfoldable pub lineOf : List ℕ → List ℕ → ℕ → ℕ → ℕ → ℕ → Line
 lineOf s codes stops runs a e =
     cond (beginsB s a e runWord) (runLine s codes stops runs (a + 4) e)
     (cond (beginsB s a e stopWord) (stopLine s codes stops runs (a + 5) e)
-    (cond (isWordB s a e endWord) (cond (eqb stops 0) (Bad lineShape) End)
+    (cond (isWordB s a e endWord) (cond (ltb 0 stops) End (Bad lineShape))
     (Bad lineShape)))

@@ -6,9 +6,9 @@ use mathlib.Core.Bool.{Bool, true, false, cond, not}
 use native.Mathlib.Omega.{arith}
 use lib.ListN.{length}
 use lib.Dec.{ltb, leb, eqb}
-use borrow.Author.Tests.{leb-false, ltb-false, eqb-false, not-false}
+use borrow.Author.Tests.{leb-false, ltb-true, ltb-false, not-false}
 use Rattle.loops.specs.Chain.{past}
-use Rattle.kinds.specs.Limits.{mostStops, mostRuns}
+use Rattle.kinds.specs.Limits.{mostStops, mostRuns, mostText}
 use Rattle.kinds.specs.Kinds.{runOf}
 use Rattle.kinds.specs.KindsLaws.{GoodRun, run-good}
 use Rattle.kinds.specs.declared.Code.{Code}
@@ -27,6 +27,12 @@ use Rattle.lines.specs.declared.FieldsRead.{FieldsRead}
 use Rattle.lines.specs.declared.FieldsRead.the-variants as fields
 use Rattle.lines.specs.declared.Line.{Line}
 use Rattle.lines.specs.declared.Line.the-variants as line
+
+-- a stretch of a text that is not too long
+pub record Stretch (s : List ℕ) (a e : ℕ) : Type 0 where
+  pub low : a ≤ e
+  pub high : e ≤ length s
+  pub short : length s ≤ mostText
 
 -- the codes of a run line stand in the text
 pub record FieldsWithin (s : List ℕ) (f : Fields) : Type 0 where
@@ -114,7 +120,7 @@ module _ (s codes : List ℕ) (stops runs e : ℕ) where
       (λ t. either (FineLine s codes stops runs e) (beginsB s a e stopWord)
       (λ (t₂ : beginsB s a e stopWord ≡ true). stop-fine (a + 5) (omega (arith, begins-long s a e stopWord t₂)))
       (λ t₂. either (FineLine s codes stops runs e) (isWordB s a e endWord)
-      (λ t₃. either (FineLine s codes stops runs e) (eqb stops 0) (λ t₄. tt) (λ t₄. omega (arith, eqb-false stops 0 t₄)))
+      (λ t₃. either (FineLine s codes stops runs e) (ltb 0 stops) (λ t₄. ltb-true 0 stops t₄) (λ t₄. tt))
       (λ t₃. tt)))
 
   -- a stop line, a run line

@@ -10,8 +10,8 @@ ghost use mathlib.Core.Path.{_≡_};
 ghost use Prim.Native.Nat.{ℕ, _+_, _≤_, _<_};
 ghost use lib.ListN.{length};
 ghost use Rattle.lookup.specs.Index.{Indexed};
-ghost use Rattle.lines.specs.Lines.{Stretch, numbersAt, fieldsAt, stopLine, runFields, runLine, lineOf};
-ghost use Rattle.lines.specs.LinesLaws.{FieldsWithin};
+ghost use Rattle.lines.specs.Lines.{numbersAt, fieldsAt, stopLine, runFields, runLine, lineOf};
+ghost use Rattle.lines.specs.LinesLaws.{Stretch, FieldsWithin};
 
 // The numbers of a run line.
 pub struct Numbers {
@@ -242,10 +242,10 @@ pub fn line_at(
         return stop_line(text, codes, heads, nexts, stops, runs, from + 5, to);
     }
     if words::is_word(text, from, to, b"end") {
-        if stops == 0 {
-            return Line::Bad(Refusal::LINE_SHAPE);
+        if 0 < stops {
+            return Line::End;
         }
-        return Line::End;
+        return Line::Bad(Refusal::LINE_SHAPE);
     }
     Line::Bad(Refusal::LINE_SHAPE)
 }

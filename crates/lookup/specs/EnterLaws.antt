@@ -11,13 +11,13 @@ use lib.Seq.{getD-set-same, getD-set-other}
 use lib.Dec.{eqb}
 use borrow.Author.Tests.{eq-eqb, ne-eqb}
 use Rattle.kinds.specs.Limits.{mostStops}
-use Rattle.lookup.specs.Lookup.{startOf, lengthOf, putCode, Placed}
-use Rattle.lookup.specs.LookupLaws.{put-start, put-size, start-kept, size-kept, placed-more}
+use Rattle.lookup.specs.Lookup.{startOf, lengthOf, putCode}
+use Rattle.lookup.specs.LookupLaws.{Placed, start-put, length-put, start-kept, length-kept, placed-more}
 use Rattle.lookup.specs.Index.{buckets, bucketOf, bucketAt, lastIn, Indexed}
 
 module _ (s codes : List ℕ) (j start n : ℕ) where
   bucket-kept : (i : ℕ) → i < j → bucketAt s (putCode codes j start n) i ≡ bucketAt s codes i
-  bucket-kept i h = rw (start-kept codes j start n i h, size-kept codes j start n i h)
+  bucket-kept i h = rw (start-kept codes j start n i h, length-kept codes j start n i h)
 
   last-kept : (b k : ℕ) → k ≤ j → lastIn s (putCode codes j start n) b k ≡ lastIn s codes b k
   unfolding lastIn
@@ -25,7 +25,7 @@ module _ (s codes : List ℕ) (j start n : ℕ) where
   last-kept b (suc k) h = rw (bucket-kept k (omega arith), last-kept b k (omega arith))
 
   bucket-new : 2 * j + 2 ≤ length codes → bucketAt s (putCode codes j start n) j ≡ bucketOf s start n
-  bucket-new h = rw (put-start codes j start n h, put-size codes j start n h)
+  bucket-new h = rw (start-put codes j start n h, length-put codes j start n h)
 
   last-new : 2 * j + 2 ≤ length codes → (b : ℕ) → bucketOf s start n ≡ b → lastIn s (putCode codes j start n) b (j + 1) ≡ j + 1
   unfolding lastIn

@@ -7,7 +7,8 @@ use mathlib.Core.Bool.{Bool, true, false, cond}
 use lib.ListN.{length, getD}
 use lib.Dec.{eqb, ltb}
 use Rattle.kinds.specs.Limits.{mostStops, mostCode, mostText}
-use Rattle.lookup.specs.Lookup.{startOf, lengthOf, Placed}
+use Rattle.lookup.specs.Lookup.{startOf, lengthOf}
+use Rattle.lookup.specs.LookupLaws.{Placed}
 
 abbrev pub buckets : ℕ
 buckets = 1024

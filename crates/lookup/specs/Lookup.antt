@@ -1,10 +1,11 @@
 -- Which stop has a code. The codes are "numbers that say where each code starts and how long it is", two a stop, in rank order.
-use Prim.Native.Nat.{ℕ, zero, suc, _+_, _*_, _≤_, _<_}
-use mathlib.Core.List.{List}
+use Prim.Native.Nat.{ℕ, zero, suc, _+_, _*_}
+use mathlib.Core.List.{List, [], _∷_}
 use mathlib.Core.Bool.{Bool, true, false, cond}
-use lib.ListN.{length, getD, set}
+use lib.ListN.{getD}
 use lib.Dec.{eqb}
 use Rattle.loops.specs.Every.{sameB}
+use Rattle.loops.specs.Put.{putFrom}
 
 abbrev pub startOf : List ℕ → ℕ → ℕ
 startOf codes j = getD codes (2 * j) 0
@@ -27,9 +28,4 @@ stopNamed s codes stops t a n = stopIn s codes t a n stops stops
 
 -- the list with the code of stop j put in
 abbrev pub putCode : List ℕ → ℕ → ℕ → ℕ → List ℕ
-putCode codes j start n = set (set codes (2 * j) start) (2 * j + 1) n
-
--- the codes of the first k stops are in the list, and stand in the text
-pub record Placed (s codes : List ℕ) (k : ℕ) : Type 0 where
-  pub listed : 2 * k ≤ length codes
-  pub placed : (j : ℕ) → j < k → startOf codes j + lengthOf codes j ≤ length s
+putCode codes j start n = putFrom codes (2 * j) (start ∷ n ∷ [])

@@ -1,13 +1,20 @@
 -- Laws of the lookup: one stop more or fewer, and a code put into the list.
 use Prim.Native.Nat.{ℕ, zero, suc, _+_, _*_, _-_, _≤_, _<_}
 use mathlib.Core.Path.{_≡_, refl, ap, _∙_}
-use mathlib.Core.List.{List}
+use mathlib.Core.List.{List, [], _∷_}
 use mathlib.Core.Bool.{Bool, true, false, cond}
 use native.Mathlib.Omega.{arith}
 use native.Mathlib.Decide.{ℕ-discrete}
-use lib.ListN.{length, getD, set, length-set}
-use lib.Seq.{getD-set-same, getD-set-other}
-use Rattle.lookup.specs.Lookup.{startOf, lengthOf, hasCode, stopIn, stopNamed, putCode, Placed}
+use native.Mathlib.Nat.{add-zero}
+use lib.ListN.{length, getD}
+use Rattle.loops.specs.Put.{putFrom}
+use Rattle.loops.specs.PutLaws.{put-length, put-before, put-at}
+use Rattle.lookup.specs.Lookup.{startOf, lengthOf, hasCode, stopIn, stopNamed, putCode}
+
+-- the codes of the first k stops are in the list, and stand in the text
+pub record Placed (s codes : List ℕ) (k : ℕ) : Type 0 where
+  pub listed : 2 * k ≤ length codes
+  pub placed : (j : ℕ) → j < k → startOf codes j + lengthOf codes j ≤ length s
 
 pub placed-fewer : {s codes : List ℕ} {k m : ℕ} → Placed s codes k → m ≤ k → Placed s codes m
 placed-fewer p h = record { listed = omega (arith, p .listed); placed = λ j l. p .placed j (omega arith) }
@@ -21,40 +28,33 @@ stop-turn s codes t a n none (suc k) h =
     let e : k ≡ suc k - 1 = omega arith in
     ap (λ (m : ℕ). cond (hasCode s codes t a n m) m (stopIn s codes t a n none m)) e
 
--- two numbers put in at i and after it change nothing before i
-two-other : (l : List ℕ) (i k x y : ℕ) → k < i → getD (set (set l i x) (i + 1) y) k 0 ≡ getD l k 0
-two-other l i k x y h =
-    getD-set-other (set l i x) (i + 1) k y 0 (λ (e : k ≡ i + 1). omega arith) ∙ getD-set-other l i k x 0 (λ (e : k ≡ i). omega arith)
-
 module _ (codes : List ℕ) (j start n : ℕ) where
-  pub put-length : length (putCode codes j start n) ≡ length codes
-  put-length = simp length-set
+  pub code-length : length (putCode codes j start n) ≡ length codes
+  code-length = put-length codes (2 * j) (start ∷ n ∷ [])
 
-  pub put-start : 2 * j + 2 ≤ length codes → startOf (putCode codes j start n) j ≡ start
-  put-start h =
-      getD-set-other (set codes (2 * j) start) (2 * j + 1) (2 * j) n 0 (λ (e : 2 * j ≡ 2 * j + 1). omega arith) ∙
-      getD-set-same codes (2 * j) start 0 (omega arith)
+  pub start-put : 2 * j + 2 ≤ length codes → startOf (putCode codes j start n) j ≡ start
+  start-put h = rw add-zero at (put-at codes (2 * j) (start ∷ n ∷ []) 0 (omega arith) h)
 
-  pub put-size : 2 * j + 2 ≤ length codes → lengthOf (putCode codes j start n) j ≡ n
-  put-size h = getD-set-same (set codes (2 * j) start) (2 * j + 1) n 0 (simp length-set (omega arith))
+  pub length-put : 2 * j + 2 ≤ length codes → lengthOf (putCode codes j start n) j ≡ n
+  length-put h = put-at codes (2 * j) (start ∷ n ∷ []) 1 (omega arith) h
 
   -- the codes of other stops stay
   pub start-kept : (i : ℕ) → i < j → startOf (putCode codes j start n) i ≡ startOf codes i
-  start-kept i h = two-other codes (2 * j) (2 * i) start n (omega arith)
+  start-kept i h = put-before codes (2 * j) (start ∷ n ∷ []) (2 * i) (omega arith)
 
-  pub size-kept : (i : ℕ) → i < j → lengthOf (putCode codes j start n) i ≡ lengthOf codes i
-  size-kept i h = two-other codes (2 * j) (2 * i + 1) start n (omega arith)
+  pub length-kept : (i : ℕ) → i < j → lengthOf (putCode codes j start n) i ≡ lengthOf codes i
+  length-kept i h = put-before codes (2 * j) (start ∷ n ∷ []) (2 * i + 1) (omega arith)
 
   pub placed-more : {s : List ℕ} → Placed s codes j → 2 * j + 2 ≤ length codes → start + n ≤ length s → Placed s (putCode codes j start n) (j + 1)
   placed-more {s} p h l =
       record {
-        listed = omega (arith, put-length);
+        listed = omega (arith, code-length);
         placed = λ i b. go i (ℕ-discrete i j) b;
       }
     where
       go : (i : ℕ) → Dec (i ≡ j) → i < j + 1 → startOf (putCode codes j start n) i + lengthOf (putCode codes j start n) i ≤ length s
-      go i (yes e) b = rw (e, put-start h, put-size h) l
-      go i (no e) b = rw (start-kept i (omega arith), size-kept i (omega arith)) (p .placed i (omega arith))
+      go i (yes e) b = rw (e, start-put h, length-put h) l
+      go i (no e) b = rw (start-kept i (omega arith), length-kept i (omega arith)) (p .placed i (omega arith))
 
 -- the plain search, from the last stop down
 pub record Scanning (s codes : List ℕ) (stops : ℕ) (t : List ℕ) (a n k : ℕ) : Type 0 where
@@ -77,3 +77,24 @@ module _ {s codes : List ℕ} {stops : ℕ} {t : List ℕ} {a n k : ℕ} (f : Sc
   scanning-end h =
       let e : k ≡ 0 = omega arith in
       rw (f .rest, e)
+
+-- where no stop is named, no stop has the code
+none-in : (s codes t : List ℕ) (a n none k : ℕ) → k ≤ none → none ≤ stopIn s codes t a n none k → (i : ℕ) → i < k → hasCode s codes t a n i ≡ false
+unfolding stopIn
+none-in s codes t a n none zero le h i lt = absurd (omega arith)
+none-in s codes t a n none (suc k) le h i lt = go (λ g l. none-in s codes t a n none k (omega arith) g i l) (hasCode s codes t a n k) refl h (ℕ-discrete i k)
+  where
+    go : (none ≤ stopIn s codes t a n none k → i < k → hasCode s codes t a n i ≡ false) →
+        (b : Bool) → hasCode s codes t a n k ≡ b → none ≤ cond b k (stopIn s codes t a n none k) → Dec (i ≡ k) → hasCode s codes t a n i ≡ false
+    go below true e g d = absurd (omega arith)
+    go below false e g (yes d) = rw d e
+    go below false e g (no d) = below g (omega arith)
+
+pub named-none : (s codes : List ℕ) (stops : ℕ) (t : List ℕ) (a n : ℕ) → stops ≤ stopNamed s codes stops t a n → (i : ℕ) → i < stops → hasCode s codes t a n i ≡ false
+unfolding stopNamed
+named-none s codes stops t a n h i lt = none-in s codes t a n stops stops (omega arith) h i lt
+
+-- a code put in changes no other stop's
+pub has-kept : (s codes t : List ℕ) (a m j start n i : ℕ) → i < j → hasCode s (putCode codes j start n) t a m i ≡ hasCode s codes t a m i
+unfolding hasCode
+has-kept s codes t a m j start n i h = rw (start-kept codes j start n i h, length-kept codes j start n i h)

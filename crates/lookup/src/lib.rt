@@ -3,7 +3,8 @@ use kinds::Code;
 ghost use mathlib.Core.Path.{_≡_};
 ghost use Prim.Native.Nat.{ℕ, _+_, _≤_, _<_};
 ghost use lib.ListN.{length};
-ghost use Rattle.lookup.specs.Lookup.{Placed, hasCode, stopNamed, putCode};
+ghost use Rattle.lookup.specs.Lookup.{hasCode, stopNamed, putCode};
+ghost use Rattle.lookup.specs.LookupLaws.{Placed};
 ghost use Rattle.lookup.specs.Index.{buckets, weighedBytes, bucketOf, Indexed, Enterable};
 
 // Whether stop j, whose code stands in s, has the code that is n bytes of t from `from` on.

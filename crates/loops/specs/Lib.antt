@@ -14,3 +14,5 @@ pub mod FirstOfLaws
 pub mod Filled
 pub mod FilledLaws
 pub mod Rows
+pub mod Put
+pub mod PutLaws

@@ -6,7 +6,7 @@ use mathlib.Core.Bool.{Bool, true, false, cond}
 use native.Mathlib.Omega.{arith}
 use lib.ListN.{length, replicate, length-set}
 use lib.Dec.{ltb, leb}
-use borrow.Author.Tests.{le-leb, lt-leb, lt-ltb, le-ltb}
+use borrow.Author.Tests.{le-leb, lt-leb, leb-false, lt-ltb, le-ltb}
 use Rattle.loops.specs.Zero.{zeros}
 use Rattle.kinds.specs.Limits.{mostStops, mostRuns, mostText, runsRoom, codesRoom}
 use Rattle.kinds.specs.Refusals.{refusal, lineShape}
@@ -80,6 +80,31 @@ opened : (f : ℕ) (s : List ℕ) (a : ℕ) (b : Sofar) → a ≤ length s → l
 unfolding readFrom
 opened zero s a b h l = rw (seek-end lf s a (length s) (omega arith), le-leb (length s) a (omega arith))
 opened (suc f) s a b h l = let e : suc f - 1 ≡ f = omega arith in rw e
+
+-- more than the number of bytes that are left makes no difference
+next-same : (go to : ℕ → Sofar → Outcome) (s : List ℕ) (e : ℕ) (b : Sofar) (l : Line) → ((c : Sofar) → go (e + 1) c ≡ to (e + 1) c) → next go s e b l ≡ next to s e b l
+next-same go to s e b (kind.Stop c) h = h (withStop b c)
+next-same go to s e b (kind.Run r) h = h (withRun b r)
+next-same go to s e b kind.End h = refl
+next-same go to s e b (kind.Bad n) h = refl
+
+pub any-fuel : (f g : ℕ) (s : List ℕ) (a : ℕ) (b : Sofar) → a ≤ length s → length s ≤ f + a → length s ≤ g + a → readFrom f s a b ≡ readFrom g s a b
+unfolding readFrom
+any-fuel zero g s a b h l m =
+    sym (opened g s a b h m ∙ (rw (seek-end lf s a (length s) (omega arith), le-leb (length s) a (omega arith))))
+any-fuel (suc f) g s a b h l m =
+    go (leb (length s) (seek lf s a (length s))) (leb-false (length s) (seek lf s a (length s)))
+    (λ lt c. any-fuel f (g - 1) s (seek lf s a (length s) + 1) c (omega arith) (omega (arith, seek-low lf s a (length s))) (omega (arith, seek-low lf s a (length s)))) ∙
+    sym (opened g s a b h m)
+  where
+    go : (t : Bool) → (t ≡ false → seek lf s a (length s) < length s) →
+        (seek lf s a (length s) < length s → (c : Sofar) → readFrom f s (seek lf s a (length s) + 1) c ≡ readFrom (g - 1) s (seek lf s a (length s) + 1) c) →
+        cond t (bad lineShape (b .line)) (next (readFrom f s) s (seek lf s a (length s)) b (lineOf s (b .codes) (b .stops) (b .runs) a (seek lf s a (length s)))) ≡
+        cond t (bad lineShape (b .line)) (next (readFrom (g - 1) s) s (seek lf s a (length s)) b (lineOf s (b .codes) (b .stops) (b .runs) a (seek lf s a (length s))))
+    go true lt rec = refl
+    go false lt rec =
+        next-same (readFrom f s) (readFrom (g - 1) s) s (seek lf s a (length s)) b (lineOf s (b .codes) (b .stops) (b .runs) a (seek lf s a (length s)))
+        (rec (lt refl))
 
 module _ {s : List ℕ} {o : Outcome} {roomR roomC a line stops runs : ℕ} {numbers codes heads nexts : List ℕ}
     (r : Reading s o roomR roomC a line stops runs numbers codes heads nexts) (e : ℕ) (at : e ≡ seek lf s a (length s)) where

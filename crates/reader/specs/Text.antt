@@ -3,8 +3,9 @@ use Prim.Native.Nat.{ℕ, zero, suc, _+_, _*_, _-_}
 use mathlib.Core.Path.{_≡_}
 use mathlib.Core.List.{List, [], _∷_}
 use mathlib.Core.Bool.{Bool, true, false, cond}
-use lib.ListN.{length, set, replicate}
+use lib.ListN.{length, replicate}
 use lib.Dec.{ltb, leb}
+use Rattle.loops.specs.Put.{putFrom}
 use Rattle.kinds.specs.Limits.{runNumbers, runsRoom, codesRoom, mostText}
 use Rattle.kinds.specs.Refusals.{refusal, firstLine, lineShape, overLimit, roomShort}
 use Rattle.kinds.specs.declared.Code.{Code}
@@ -32,8 +33,7 @@ pub data Outcome : Type 0 where
 
 -- the five numbers of run k put in
 unfoldable pub putRun : List ℕ → ℕ → Run → List ℕ
-putRun l k r =
-    set (set (set (set (set l (runNumbers * k) (r .from)) (runNumbers * k + 1) (r .to)) (runNumbers * k + 2) (r .dep)) (runNumbers * k + 3) (r .arr)) (runNumbers * k + 4) (r .trip)
+putRun l k r = putFrom l (runNumbers * k) (r .from ∷ r .to ∷ r .dep ∷ r .arr ∷ r .trip ∷ [])
 
 -- "The stops stand in rank order: the first is stop 0"
 abbrev pub withStop : Sofar → Code → Sofar
@@ -45,16 +45,16 @@ abbrev pub withRun : Sofar → Run → Sofar
 withRun b r =
     record { line = b .line + 1; stops = b .stops; runs = b .runs + 1; codes = b .codes; numbers = putRun (b .numbers) (b .runs) r }
 
--- What a line leads to; its LF stands at e, and go reads on. "then "end" and nothing after": bytes after it are refusal 2 at the line where they are met.
+-- What a line leads to; its LF stands at e, and go reads on. "bytes after "end" are refusal 2, at the line where they are met".
 abbrev pub next : (ℕ → Sofar → Outcome) → List ℕ → ℕ → Sofar → Line → Outcome
 next go s e b (line.Stop c) = go (e + 1) (withStop b c)
 next go s e b (line.Run r) = go (e + 1) (withRun b r)
 next go s e b line.End = cond (ltb (e + 1) (length s)) (bad lineShape (b .line + 1)) (whole b)
 next go s e b (line.Bad n) = bad n (b .line)
 
--- The lines from a on; f is at least the number of bytes that are left, of which each line takes one or more.
--- "a line without LF" is refusal 2 "at the line where [it is] met and before any other refusal of that line";
--- a missing "end" is such a line, of no bytes, after the last.
+-- The lines from a on. f is at least the number of bytes that are left (each line takes one or more), so at zero none is.
+-- "a line without LF [is] refusal 2, at the line where [it is] met and before any other refusal of that line; a missing "end" is at the
+-- line after the last": there a line of no bytes has no LF.
 unfoldable pub readFrom : ℕ → List ℕ → ℕ → Sofar → Outcome
 readFrom zero s a b = bad lineShape (b .line)
 readFrom (suc f) s a b =

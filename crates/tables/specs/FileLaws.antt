@@ -1,16 +1,17 @@
 -- Laws of the file's numbers: where the sets begin and end, and what a label that is read says of the tables.
-use Prim.Native.Nat.{ℕ, zero, suc, _+_, _*_, _-_, _/_, _≤_, _<_}
-use mathlib.Core.Path.{_≡_, refl, ap, sym, subst, _∙_}
+use Prim.Native.Nat.{ℕ, zero, suc, _+_, _*_, _≤_, _<_}
+use mathlib.Core.Path.{_≡_, refl, sym, subst}
 use mathlib.Core.List.{List}
 use mathlib.Core.Logic.{⊎-elim}
 use native.Mathlib.Omega.{arith}
 use native.Mathlib.Numerals.{add-one}
 use native.Mathlib.Nat.{eq-or-lt-of-le}
-use lib.ListN.{length, getD}
+use native.Mathlib.Decide.{decLt}
 use lib.Dec.{ltb}
 use borrow.Author.Tests.{le-ltb, lt-ltb}
 use Rattle.kinds.specs.declared.Label.{Label}
-use Rattle.tables.specs.File.{stopsOf, countOf, startOf, endOf, labelsOf, labelAt, follows}
+use Rattle.tables.specs.File.{stopsOf, startOf, endOf, labelsOf}
+use Rattle.tables.specs.Judged.{follows}
 use Rattle.tables.specs.Good.{Contents}
 
 module _ (b : List ℕ) where
@@ -38,6 +39,17 @@ module _ (b : List ℕ) where
 -- and within the labels of the file
 pub set-within : {b : List ℕ} {n set : ℕ} → Contents b n → set < 2 * n → endOf b set ≤ labelsOf b
 set-within {b} {n} {set} g lt = end-within b (2 * stopsOf b) set (omega (arith, g .stops))
+
+-- a label stands in one of the sets
+pub located : (b : List ℕ) (m k : ℕ) → k < startOf b m → (set : ℕ) × (set < m) × (startOf b set ≤ k) × (k < endOf b set)
+unfolding startOf
+located b zero k lt = absurd (omega arith)
+located b (suc m) k lt = go (decLt k (startOf b m)) (λ h. located b m k h)
+  where
+    go : Dec (k < startOf b m) → (k < startOf b m → (set : ℕ) × (set < m) × (startOf b set ≤ k) × (k < endOf b set)) →
+        (set : ℕ) × (set < suc m) × (startOf b set ≤ k) × (k < endOf b set)
+    go (yes h) rec = let r = rec h in (r .0, omega (arith, r .1), r .2, r .3)
+    go (no h) rec = (m, omega arith, omega arith, omega arith)
 
 -- for one hub and a later departure, the arrivals decide
 pub follows-later : (m l : Label) → m .hub ≤ l .hub → l .hub ≤ m .hub → m .dep < l .dep → follows m l ≡ ltb (m .arr) (l .arr)

@@ -1,18 +1,17 @@
 -- Good tables: a label is judged good exactly when it is, labels of one set rise, and the file's tables are good tables.
-use Prim.Native.Nat.{ℕ, zero, suc, _+_, _*_, _-_, _/_, _≤_, _<_}
-use mathlib.Core.Path.{_≡_, refl, ap, sym, subst, _∙_}
+use Prim.Native.Nat.{ℕ, zero, suc, _+_, _*_, _-_, _≤_, _<_}
+use mathlib.Core.Path.{_≡_, refl, sym, subst, _∙_}
 use mathlib.Core.List.{List}
 use mathlib.Core.Bool.{Bool, true, false, cond}
 use mathlib.Core.Option.{Option, none, some}
-use mathlib.Core.Logic.{_⊎_, inl, inr, ⊎-elim}
+use mathlib.Core.Logic.{_⊎_, inl, inr}
 use native.Mathlib.Omega.{arith}
-use native.Mathlib.Decide.{ℕ-discrete, decLt}
+use native.Mathlib.Decide.{ℕ-discrete}
 use lib.ListN.{length, getD}
 use lib.Dec.{ltb, leb, eqb}
-use borrow.Author.Tests.{lt-ltb, le-ltb, lt-leb, le-leb, eq-eqb, ne-eqb, ltb-true, ltb-false, leb-true, eqb-true, eqb-false}
+use borrow.Author.Tests.{lt-ltb, le-ltb, lt-leb, le-leb, eq-eqb, ne-eqb, ltb-true, ltb-false, leb-true, eqb-true}
 use Rattle.loops.specs.Chain.{past, stays}
-use Rattle.loops.specs.FirstOf.{firstOf}
-use Rattle.loops.specs.FirstOfLaws.{first-of-clear, first-of-all, first-of-found}
+use Rattle.loops.specs.FirstOfLaws.{first-of-clear, first-of-all}
 use Rattle.kinds.specs.Limits.{noPivot, lastMinute, mostStops, mostLabels}
 use Rattle.kinds.specs.Kinds.{labelOf, isStopCount}
 use Rattle.kinds.specs.KindsLaws.{GoodPivot, label-good, stop-count}
@@ -21,7 +20,8 @@ use Rattle.kinds.specs.declared.LabelRead.{LabelRead}
 use Rattle.kinds.specs.declared.LabelRead.the-variants as label
 use Rattle.tables.specs.declared.TablesRead.the-variants.{Good}
 use Rattle.tables.specs.Format.{formatMark, headerBytes, entryBytes}
-use Rattle.tables.specs.File.{stopsOf, ownerOf, countOf, startOf, labelsOf, placeOf, labelAt, follows, isGood, goodLabel, badLabel, badInSet, firstBad, judgedBy, judgedContents, judgedTables}
+use Rattle.tables.specs.File.{stopsOf, ownerOf, countOf, startOf, labelsOf, placeOf, labelAt}
+use Rattle.tables.specs.Judged.{follows, isGood, goodLabel, badLabel, badInSet, firstBad, judgedBy, judgedContents, judgedTables}
 use Rattle.tables.specs.Good.{After, higher, later, LabelGood, GoodEntry, GoodFile}
 
 -- ---- one label

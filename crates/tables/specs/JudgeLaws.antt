@@ -12,16 +12,12 @@ use Rattle.loops.specs.FirstOfLaws.{first-of-none, first-of-more, first-of-here
 use Rattle.kinds.specs.Limits.{mostLabels}
 use Rattle.kinds.specs.Refusals.{tablesLength, refusal}
 use Rattle.kinds.specs.declared.Label.{Label}
-use Rattle.tables.specs.declared.LabelsRead.{LabelsRead}
 use Rattle.tables.specs.declared.LabelsRead.the-variants.{AllGood, BadAt}
 use Rattle.tables.specs.declared.TablesRead.the-variants.{No}
 use Rattle.tables.specs.Format.{headerBytes, entryBytes}
-use Rattle.tables.specs.File.{stopsOf, ownerOf, startOf, labelsOf, placeOf, labelAt, goodLabel, badLabel, firstBad, judgedBy, judgedContents}
-
--- what a loop over labels answers
-abbrev pub labelsRead : Option ℕ → LabelsRead
-labelsRead none = AllGood
-labelsRead (some k) = BadAt k
+use Rattle.tables.specs.Turns.{labelsRead, lastOf}
+use Rattle.tables.specs.File.{stopsOf, ownerOf, startOf, labelsOf, placeOf, labelAt}
+use Rattle.tables.specs.Judged.{follows, goodLabel, badLabel, firstBad, judgedBy, judgedContents}
 
 pub read-good : (o : Option ℕ) → labelsRead o ≡ AllGood → o ≡ none
 read-good none e = refl
@@ -31,39 +27,47 @@ pub read-bad : (o : Option ℕ) (k : ℕ) → labelsRead o ≡ BadAt k → o ≡
 read-bad none k e = let z : _≡_ {A = ℕ} 0 1 = cc in absurd (omega arith)
 read-bad (some m) k e = cc
 
--- the first i labels of a set were good, and m was the last of them
-pub record Passed (b : List ℕ) (set i : ℕ) (m : Label) : Type 0 where
+-- the first i labels of a set were good, and the last of them says hub h, departure d, arrival a
+pub record Passed (b : List ℕ) (set i h d a : ℕ) : Type 0 where
   pub clear : firstOf (badLabel b set) i ≡ none
-  pub last : 0 < i → m ≡ labelAt b (startOf b set + i - 1)
+  pub hub : 0 < i → h ≡ labelAt b (startOf b set + i - 1) .hub
+  pub dep : 0 < i → d ≡ labelAt b (startOf b set + i - 1) .dep
+  pub arr : 0 < i → a ≡ labelAt b (startOf b set + i - 1) .arr
 
-pub passed-none : {b : List ℕ} {set : ℕ} {m : Label} → Passed b set 0 m
-passed-none = record { clear = first-of-none _; last = λ lt. absurd (omega arith) }
+pub passed-none : {b : List ℕ} {set h d a : ℕ} → Passed b set 0 h d a
+passed-none =
+    record { clear = first-of-none _; hub = λ lt. absurd (omega arith); dep = λ lt. absurd (omega arith); arr = λ lt. absurd (omega arith) }
 
--- the label that the loop holds does for the one before
-same : (b : List ℕ) (set i : ℕ) {m : Label} → (0 < i → m ≡ labelAt b (startOf b set + i - 1)) →
+-- what the loop holds does for the label before
+same : {b : List ℕ} {set h d a : ℕ} (i : ℕ) → Passed b set i h d a →
     goodLabel (stopsOf b) (ownerOf set) i (labelAt b (startOf b set + i - 1)) (labelAt b (startOf b set + i)) ≡
-    goodLabel (stopsOf b) (ownerOf set) i m (labelAt b (startOf b set + i))
-unfolding goodLabel
-same b set zero h = refl
-same b set (suc i) h = rw (h (omega arith))
+    goodLabel (stopsOf b) (ownerOf set) i (lastOf h d a) (labelAt b (startOf b set + i))
+unfolding goodLabel follows
+same zero p = refl
+same (suc i) p = rw (p .hub (omega arith), p .dep (omega arith), p .arr (omega arith))
 
 -- a turn of the loop, by what the code holds: the stop count, the set's start, the label that was read, and how it was judged
-module _ {b : List ℕ} {set i n start : ℕ} {m l : Label} {good : Bool} (p : Passed b set i m) (en : stopsOf b ≡ n) (es : start ≡ startOf b set)
-    (el : l ≡ labelAt b (start + i)) (eg : good ≡ goodLabel n (ownerOf set) i m l) where
+module _ {b : List ℕ} {set i h d a n start : ℕ} {l : Label} {good : Bool} (p : Passed b set i h d a) (en : stopsOf b ≡ n) (es : start ≡ startOf b set)
+    (el : l ≡ labelAt b (start + i)) (eg : good ≡ goodLabel n (ownerOf set) i (lastOf h d a) l) where
   judged : goodLabel (stopsOf b) (ownerOf set) i (labelAt b (startOf b set + i - 1)) (labelAt b (startOf b set + i)) ≡ good
-  judged = same b set i (p .last) ∙ rw (← es, ← el, en) (sym eg)
+  judged = same i p ∙ rw (← es, ← el, en) (sym eg)
 
-  pub passed-more : good ≡ true → Passed b set (i + 1) l
+  this : l ≡ labelAt b (startOf b set + (i + 1) - 1)
+  this = el ∙ ap (labelAt b) (omega (arith, es))
+
+  pub passed-more : good ≡ true → Passed b set (i + 1) (l .hub) (l .dep) (l .arr)
   unfolding badLabel
-  passed-more h =
+  passed-more e =
       record {
-        clear = first-of-more _ i (p .clear) (rw (judged, h));
-        last = λ lt. el ∙ ap (labelAt b) (omega (arith, es));
+        clear = first-of-more _ i (p .clear) (rw (judged, e));
+        hub = λ lt. ap (λ (x : Label). x .hub) this;
+        dep = λ lt. ap (λ (x : Label). x .dep) this;
+        arr = λ lt. ap (λ (x : Label). x .arr) this;
       }
 
   pub passed-bad : (count : ℕ) → i < count → good ≡ false → firstOf (badLabel b set) count ≡ some (start + i)
   unfolding badLabel
-  passed-bad count lt h = first-of-here _ count i lt (p .clear) (rw (judged, h, es))
+  passed-bad count lt e = first-of-here _ count i lt (p .clear) (rw (judged, e, es))
 
 -- the tests behind the header, one after the other
 module _ (b : List ℕ) where

@@ -1,6 +1,8 @@
 pub mod Format
 pub mod File
+pub mod Judged
 pub mod Good
+pub mod Turns
 pub mod FileLaws
 pub mod JudgeLaws
 pub mod GoodLaws

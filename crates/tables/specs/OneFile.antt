@@ -1,27 +1,26 @@
 -- One file: good tables with the same labels are the same bytes.
-use Prim.Native.Nat.{ℕ, zero, suc, _+_, _*_, _-_, _/_, _%_, _≤_, _<_}
+use Prim.Native.Nat.{ℕ, _+_, _*_, _-_, _/_, _%_, _≤_, _<_}
 use mathlib.Core.Path.{_≡_, refl, ap, sym, subst, subst₂, _∙_}
 use mathlib.Core.List.{List}
-use mathlib.Core.Bool.{Bool, true, false, cond}
-use mathlib.Core.Option.{Option, none, some}
-use mathlib.Core.Logic.{_⊎_, inl, inr, ⊎-elim, _↔_}
+use mathlib.Core.Option.{Option}
+use mathlib.Core.Logic.{_⊎_, inl, inr, _↔_}
 use native.Mathlib.Omega.{arith}
 use native.Mathlib.Decide.{ℕ-discrete, decLt}
 use lib.ListN.{length, getD}
 use lib.Seq.{ext-getD}
-use lib.Dec.{eqb}
 use borrow.Author.Tests.{eq-eqb, ne-eqb}
 use Rattle.loops.specs.Rows.{Rises, Among, row-agrees, row-longer}
 use Rattle.kinds.specs.Limits.{noPivot}
 use Rattle.kinds.specs.declared.Label.{Label}
-use Rattle.journeys.specs.Tables.{Side, outs, ins, Tables, Entry}
+use Rattle.journeys.specs.Tables.{Side, Tables, Entry}
 use Rattle.tables.specs.declared.TablesRead.the-variants.{Good}
 use Rattle.tables.specs.Format.{headerBytes, entryBytes, labelBytes, noPivotByte}
-use Rattle.tables.specs.File.{twoAt, stopsOf, setOf, ownerOf, countOf, startOf, endOf, labelsOf, placeOf, pivotRead, labelAt, pivotOf, tablesOf, judgedTables}
-use Rattle.tables.specs.FileLaws.{start-more}
+use Rattle.tables.specs.File.{twoAt, stopsOf, setOf, countOf, startOf, labelsOf, placeOf, pivotRead, labelAt, pivotOf, tablesOf}
+use Rattle.tables.specs.Judged.{judgedTables}
+use Rattle.tables.specs.FileLaws.{located}
 use Rattle.tables.specs.Good.{After, GoodFile}
 use Rattle.tables.specs.GoodLaws.{after-trans, after-irrefl, judged-good}
-use Rattle.tables.specs.TablesLaws.{pivot-is, pivot-none, pivot-some, set-below, rises}
+use Rattle.tables.specs.TablesLaws.{set-cases, pivot-is, pivot-none, pivot-some, set-below, rises}
 use Rattle.tables.specs.WriteLaws.{start-same}
 
 -- the bytes of a slice are bytes
@@ -52,13 +51,6 @@ unfolding label-with
 same-label l m h d a p =
     let e : label-with (l .hub) (l .dep) (l .arr) (l .pivot) ≡ label-with (m .hub) (m .dep) (m .arr) (m .pivot) = rw (h, d, a, p) in
     e
-
-set-cases : (set n : ℕ) → set < 2 * n → (side : Side) × (s : ℕ) × (s < n) × (setOf side s ≡ set)
-set-cases set n lt = go (ℕ-discrete (set % 2) 0)
-  where
-    go : Dec (set % 2 ≡ 0) → (side : Side) × (s : ℕ) × (s < n) × (setOf side s ≡ set)
-    go (yes e) = (outs, set / 2, omega arith, omega arith)
-    go (no e) = (ins, set / 2, omega arith, omega arith)
 
 -- ---- the labels of one set, from b to c
 
@@ -91,17 +83,6 @@ module _ {b c : List ℕ} {n : ℕ} (gb : GoodFile b n) (gc : GoodFile c n)
             omega (arith, x .low, x .high),
             ap (labelAt c) e ∙ same-label (labelAt c m) (labelAt b k) (x .hub) (x .dep) (x .arr) (pivot-one _ _ (x .pivot)),
           )
-
--- a label stands in a set
-pub located : (b : List ℕ) (m k : ℕ) → k < startOf b m → (set : ℕ) × (set < m) × (startOf b set ≤ k) × (k < endOf b set)
-unfolding startOf
-located b zero k lt = absurd (omega arith)
-located b (suc m) k lt = go (decLt k (startOf b m)) (λ h. located b m k h)
-  where
-    go : Dec (k < startOf b m) → (k < startOf b m → (set : ℕ) × (set < m) × (startOf b set ≤ k) × (k < endOf b set)) →
-        (set : ℕ) × (set < suc m) × (startOf b set ≤ k) × (k < endOf b set)
-    go (yes h) rec = let r = rec h in (r .0, omega (arith, r .1), r .2, r .3)
-    go (no h) rec = (m, omega arith, omega arith, omega arith)
 
 module _ {b c : List ℕ} {n : ℕ} (gb : GoodFile b n) (gc : GoodFile c n) (same : SameLabels (tablesOf b) (tablesOf c)) where
   there : (side : Side) (s h d a : ℕ) (p : Option ℕ) → (k : ℕ) × Entry (tablesOf b) side k s h d a p → (k : ℕ) × Entry (tablesOf c) side k s h d a p

@@ -1,8 +1,7 @@
 -- Refusal 11 names a label that there is, that is not good, and before which every label is good.
-use Prim.Native.Nat.{ℕ, _+_, _*_, _≤_, _<_}
+use Prim.Native.Nat.{ℕ, _+_, _*_, _<_}
 use mathlib.Core.Path.{_≡_, refl, ap, sym, subst, _∙_}
 use mathlib.Core.List.{List}
-use mathlib.Core.Bool.{Bool, true, false, cond}
 use mathlib.Core.Option.{Option, none, some}
 use native.Mathlib.Omega.{arith}
 use native.Mathlib.Decide.{decLt}
@@ -10,7 +9,6 @@ use lib.ListN.{length, getD}
 use lib.Dec.{leb, eqb}
 use borrow.Author.Tests.{leb-true, eqb-true}
 use Rattle.loops.specs.Chain.{past, stays}
-use Rattle.loops.specs.FirstOf.{firstOf}
 use Rattle.loops.specs.FirstOfLaws.{FoundAt, first-of-clear, first-of-found}
 use Rattle.kinds.specs.Limits.{mostLabels}
 use Rattle.kinds.specs.Refusals.{labelBad, refusal}
@@ -20,7 +18,8 @@ use Rattle.kinds.specs.declared.Refusal.{Refusal}
 use Rattle.tables.specs.declared.TablesRead.{TablesRead}
 use Rattle.tables.specs.declared.TablesRead.the-variants.{Good, No}
 use Rattle.tables.specs.Format.{formatMark, headerBytes, entryBytes}
-use Rattle.tables.specs.File.{stopsOf, ownerOf, countOf, startOf, endOf, labelsOf, placeOf, labelAt, goodLabel, badLabel, badInSet, firstBad, judgedBy, judgedContents, judgedTables}
+use Rattle.tables.specs.File.{stopsOf, ownerOf, countOf, startOf, labelsOf, placeOf}
+use Rattle.tables.specs.Judged.{goodLabel, badLabel, badInSet, firstBad, judgedBy, judgedContents, judgedTables}
 use Rattle.tables.specs.FileLaws.{start-rises, start-more}
 use Rattle.tables.specs.Good.{Room, GoodEntry}
 use Rattle.tables.specs.GoodLaws.{entry-good, good-entry}

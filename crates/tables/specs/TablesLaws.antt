@@ -1,25 +1,25 @@
 -- The tables of a good file are good tables, and what a label that is read says of them. Those above need no more of the bytes than this.
-use Prim.Native.Nat.{ℕ, zero, suc, _+_, _*_, _-_, _/_, _≤_, _<_}
-use mathlib.Core.Path.{_≡_, refl, ap, sym, subst, subst₂, _∙_}
+use Prim.Native.Nat.{ℕ, zero, suc, _+_, _*_, _-_, _/_, _%_, _≤_, _<_}
+use mathlib.Core.Path.{_≡_, refl, sym, subst, subst₂, _∙_}
 use mathlib.Core.List.{List}
-use mathlib.Core.Bool.{Bool, true, false}
 use mathlib.Core.Option.{Option, none, some}
-use mathlib.Core.Logic.{_⊎_, inl, inr, ⊎-elim, _≢_}
+use mathlib.Core.Logic.{_⊎_, inl, inr, ⊎-elim}
 use native.Mathlib.Omega.{arith}
 use native.Mathlib.Nat.{eq-or-lt-of-le}
+use native.Mathlib.Decide.{ℕ-discrete, decLt}
 use lib.ListN.{length, getD}
 use lib.Dec.{eqb}
 use borrow.Author.Tests.{eq-eqb, ne-eqb, eqb-false}
 use Rattle.loops.specs.Chain.{past}
 use Rattle.loops.specs.Filled.{filled}
 use Rattle.loops.specs.FilledLaws.{filled-at}
-use Rattle.kinds.specs.Limits.{noPivot, lastMinute}
+use Rattle.kinds.specs.Limits.{noPivot}
 use Rattle.kinds.specs.KindsLaws.{GoodPivot}
 use Rattle.kinds.specs.declared.Label.{Label}
 use Rattle.journeys.specs.Tables.{Side, outs, ins, Tables, Entry, GoodTables}
 use Rattle.tables.specs.File.{stopsOf, setOf, ownerOf, countOf, startOf, endOf, labelsOf, labelAt, pivotOf, tablesOf}
-use Rattle.tables.specs.FileLaws.{start-more, set-within}
-use Rattle.tables.specs.Good.{After, higher, later, LabelGood, GoodEntry, GoodFile}
+use Rattle.tables.specs.FileLaws.{start-more, end-within, set-within, located}
+use Rattle.tables.specs.Good.{After, higher, later, LabelGood, GoodFile}
 use Rattle.tables.specs.GoodLaws.{after-trans}
 
 -- ---- pivots
@@ -69,11 +69,54 @@ pub set-below : (side : Side) (s n : ℕ) → s < n → setOf side s < 2 * n
 set-below outs s n lt = omega arith
 set-below ins s n lt = omega arith
 
+pub set-cases : (set n : ℕ) → set < 2 * n → (side : Side) × (s : ℕ) × (s < n) × (setOf side s ≡ set)
+set-cases set n lt = go (ℕ-discrete (set % 2) 0)
+  where
+    go : Dec (set % 2 ≡ 0) → (side : Side) × (s : ℕ) × (s < n) × (setOf side s ≡ set)
+    go (yes e) = (outs, set / 2, omega arith, omega arith)
+    go (no e) = (ins, set / 2, omega arith, omega arith)
+
+set-one : (side side′ : Side) (s s′ : ℕ) → setOf side s ≡ setOf side′ s′ → (side ≡ side′) × (s ≡ s′)
+set-one outs outs s s′ e = (refl, omega arith)
+set-one ins ins s s′ e = (refl, omega arith)
+set-one outs ins s s′ e = absurd (omega arith)
+set-one ins outs s s′ e = absurd (omega arith)
+
 module _ {b : List ℕ} {n : ℕ} (g : GoodFile b n) where
+  pub good-stops : tablesOf b .stops ≡ n
+  unfolding tablesOf
+  good-stops = g .room .contents .stops
+
   -- the sets lie within the labels
   pub tables-within : (side : Side) (s : ℕ) → s < n → tablesOf b .end side s ≤ labelsOf b
   unfolding tablesOf
   tables-within side s lt = set-within (g .room .contents) (set-below side s n lt)
+
+  -- the label that is read between the bounds of a set is an entry of the tables
+  pub entry-read : (side : Side) (s k : ℕ) → s < n → tablesOf b .start side s ≤ k → k < tablesOf b .end side s →
+      Entry (tablesOf b) side k s (labelAt b k .hub) (labelAt b k .dep) (labelAt b k .arr) (pivotOf (labelAt b k .pivot))
+  unfolding tablesOf
+  entry-read side s k lt low high =
+      record { owner = omega (arith, g .room .contents .stops); low = low; high = high; hub = refl; dep = refl; arr = refl; pivot = refl }
+
+  -- each label stands between the bounds of a set
+  pub entry-located : (k : ℕ) → k < labelsOf b → (side : Side) × (s : ℕ) × (s < n) × (tablesOf b .start side s ≤ k) × (k < tablesOf b .end side s)
+  unfolding tablesOf
+  entry-located k lt =
+      let z = located b (2 * stopsOf b) k lt in
+      let c = set-cases (z .0) n (omega (arith, z .1, g .room .contents .stops)) in
+      (c .0, c .1, c .2, subst (λ (x : ℕ). startOf b x ≤ k) (sym (c .3)) (z .2), subst (λ (x : ℕ). k < endOf b x) (sym (c .3)) (z .3))
+
+  -- and of one set only
+  pub entry-one : {side side′ : Side} {k s h d a s′ h′ d′ a′ : ℕ} {p p′ : Option ℕ} → Entry (tablesOf b) side k s h d a p → Entry (tablesOf b) side′ k s′ h′ d′ a′ p′ →
+      (side ≡ side′) × (s ≡ s′)
+  unfolding tablesOf
+  entry-one {side} {side′} {k} {s} {s′ = s′} x y = set-one side side′ s s′ (go (decLt (setOf side s) (setOf side′ s′)) (decLt (setOf side′ s′) (setOf side s)))
+    where
+      go : Dec (setOf side s < setOf side′ s′) → Dec (setOf side′ s′ < setOf side s) → setOf side s ≡ setOf side′ s′
+      go (yes lt) d = absurd (omega (arith, end-within b _ _ lt, x .high, y .low))
+      go (no ge) (yes lt) = absurd (omega (arith, end-within b _ _ lt, y .high, x .low))
+      go (no ge) (no le) = omega arith
 
   -- labels of one set rise
   pub rises : (set i k : ℕ) → set < 2 * n → i < k → k < countOf b set → After (labelAt b (startOf b set + i)) (labelAt b (startOf b set + k))

@@ -1,18 +1,16 @@
 -- Reading back what was written, and what a write leaves as it was.
-use Prim.Native.Nat.{ℕ, zero, suc, _+_, _*_, _-_, _/_, _%_, _≤_, _<_}
-use mathlib.Core.Path.{_≡_, refl, ap, ap₂, sym, subst, _∙_}
+use Prim.Native.Nat.{ℕ, zero, suc, _+_, _*_, _/_, _%_, _≤_, _<_}
+use mathlib.Core.Path.{_≡_, refl, ap, sym, _∙_}
 use mathlib.Core.List.{List}
-use mathlib.Core.Bool.{cond}
-use mathlib.Core.Logic.{_⊎_, inl, inr, ⊎-elim}
+use mathlib.Core.Logic.{_⊎_, inl, inr}
 use native.Mathlib.Omega.{arith}
 use lib.ListN.{length, getD, set, length-set}
 use lib.Seq.{getD-set-same, getD-set-other}
-use lib.Dec.{eqb}
 use borrow.Author.Tests.{eq-eqb, ne-eqb}
 use Rattle.kinds.specs.Limits.{noPivot, mostStops}
 use Rattle.kinds.specs.KindsLaws.{GoodPivot}
 use Rattle.kinds.specs.declared.Label.{Label}
-use Rattle.tables.specs.Format.{formatMark, headerBytes, entryBytes, noPivotByte}
+use Rattle.tables.specs.Format.{formatMark, headerBytes, noPivotByte}
 use Rattle.tables.specs.File.{twoAt, stopsOf, countOf, startOf, placeOf, pivotRead, labelAt}
 use Rattle.tables.specs.Good.{LabelGood}
 use Rattle.tables.specs.Write.{putTwo, putHeader, putCount, pivotByte, putLabel}

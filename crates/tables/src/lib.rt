@@ -4,14 +4,15 @@ use kinds::LabelRead;
 use kinds::Refusal;
 use kinds::Stop;
 ghost use mathlib.Core.Path.{_≡_};
-ghost use Prim.Native.Nat.{ℕ, _+_, _*_, _≤_, _<_};
+ghost use Prim.Native.Nat.{_+_, _*_, _≤_, _<_};
 ghost use lib.ListN.{length};
 ghost use Rattle.loops.specs.Filled.{filled};
 ghost use Rattle.kinds.specs.Limits.{mostStops, mostLabels};
 ghost use Rattle.journeys.specs.Tables.{outs, ins};
 ghost use Rattle.tables.specs.Format.{headerBytes};
-ghost use Rattle.tables.specs.File.{twoAt, stopsOf, countOf, startOf, endOf, labelsOf, placeOf, pivotRead, labelAt, tablesOf, boundsOf, follows, goodLabel, badInSet, firstBad, judgedContents, judgedTables};
-ghost use Rattle.tables.specs.JudgeLaws.{labelsRead};
+ghost use Rattle.tables.specs.File.{twoAt, stopsOf, countOf, startOf, endOf, labelsOf, placeOf, pivotRead, labelAt, tablesOf, boundsOf};
+ghost use Rattle.tables.specs.Judged.{follows, goodLabel, badInSet, firstBad, judgedContents, judgedTables};
+ghost use Rattle.tables.specs.Turns.{labelsRead, lastOf};
 ghost use Rattle.tables.specs.Write.{putTwo, putHeader, putCount, pivotByte, putLabel};
 ghost use Rattle.tables.specs.Good.{Contents, Room};
 
@@ -27,7 +28,7 @@ const LABEL: usize = 6;
 const NO_PIVOT: u8 = 255;
 
 // The labels judged one after the other: none is bad, or the first that is.
-pub enum LabelsRead {
+enum LabelsRead {
     AllGood,
     BadAt(u32),
 }
@@ -153,24 +154,25 @@ pub fn ins_of(bytes: &[u8], n: u16, s: u16) -> Bounds
     bounds_of(bytes, 2 * (s as usize) + 1)
 }
 
-fn may_follow(before: Label, l: Label) -> bool
-    ensures { λ r. ⌜ r ≡ follows before l ⌝ }
+// Whether a label may come after one with this hub, departure and arrival.
+fn may_follow(hub: u16, dep: u16, arr: u16, l: Label) -> bool
+    ensures { λ r. ⌜ r ≡ follows (lastOf hub dep arr) l ⌝ }
 {
-    if l.hub < before.hub {
+    if l.hub < hub {
         return false;
     }
-    if before.hub < l.hub {
+    if hub < l.hub {
         return true;
     }
-    if before.dep < l.dep {
-        return before.arr < l.arr;
+    if dep < l.dep {
+        return arr < l.arr;
     }
     false
 }
 
-// Whether label i of its set is good; `before` counts only where it is not the first.
-fn good_label(n: u16, owner: u16, i: usize, before: Label, l: Label) -> bool
-    ensures { λ r. ⌜ r ≡ goodLabel n owner i before l ⌝ }
+// Whether label i of its set is good; the label before counts only where it is not the first.
+fn good_label(n: u16, owner: u16, i: usize, hub: u16, dep: u16, arr: u16, l: Label) -> bool
+    ensures { λ r. ⌜ r ≡ goodLabel n owner i (lastOf hub dep arr) l ⌝ }
 {
     let read = Label::new(n, owner, l.hub, l.dep, l.arr, l.pivot);
     match read {
@@ -182,7 +184,7 @@ fn good_label(n: u16, owner: u16, i: usize, before: Label, l: Label) -> bool
     if i == 0 {
         return true;
     }
-    may_follow(before, l)
+    may_follow(hub, dep, arr, l)
 }
 
 // The labels of one set, which begins at label `start`: the first that is not good.
@@ -195,19 +197,18 @@ fn judge_set(bytes: &[u8], n: u16, set: usize, start: usize, count: usize) -> La
     ensures { λ r. ⌜ r ≡ labelsRead (badInSet (now (bytes .entry)) set) ⌝ }
 {
     let owner = (set / 2) as u16;
-    let mut before = Label {
-        hub: 0,
-        dep: 0,
-        arr: 0,
-        pivot: 0,
-    };
+    let mut hub = 0;
+    let mut dep = 0;
+    let mut arr = 0;
     let mut i = 0;
     while i < count {
         let l = label_at(bytes, n, start + i);
-        if !good_label(n, owner, i, before, l) {
+        if !good_label(n, owner, i, hub, dep, arr, l) {
             return LabelsRead::BadAt((start + i) as u32);
         }
-        before = l;
+        hub = l.hub;
+        dep = l.dep;
+        arr = l.arr;
         i += 1;
     }
     LabelsRead::AllGood

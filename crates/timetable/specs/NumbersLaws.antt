@@ -17,9 +17,8 @@ use Rattle.kinds.specs.declared.Refusal.{Refusal}
 use Rattle.kinds.specs.declared.Run.{Run}
 use Rattle.kinds.specs.declared.RunRead.{RunRead}
 use Rattle.kinds.specs.declared.RunRead.the-variants as run
-use Rattle.journeys.specs.Service.{Service, RideAt, GoodService}
-use Rattle.timetable.specs.declared.Judged.{Judged}
-use Rattle.timetable.specs.declared.Judged.the-variants.{Good, No}
+use Rattle.journeys.specs.Service.{RideAt, GoodService}
+use Rattle.timetable.specs.declared.Judged.the-variants.{Good}
 use Rattle.timetable.specs.Numbers.{runAt, rideOf, serviceOf, readRun, refusedBy, refusedRun, judgedBy, judgedOf, RunGood, GoodNumbers, GoodRunAt}
 
 module _ (stops : ℕ) (list : List ℕ) where

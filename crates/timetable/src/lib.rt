@@ -4,7 +4,7 @@ use kinds::Run;
 use kinds::RunRead;
 use kinds::Stop;
 ghost use mathlib.Core.Path.{_≡_};
-ghost use Prim.Native.Nat.{ℕ, _+_, _*_, _≤_, _<_};
+ghost use Prim.Native.Nat.{_+_, _*_, _≤_, _<_};
 ghost use lib.ListN.{length};
 ghost use Rattle.loops.specs.FirstOf.{firstOf};
 ghost use Rattle.kinds.specs.Limits.{mostStops, mostRuns, runNumbers};

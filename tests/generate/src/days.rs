@@ -151,9 +151,7 @@ pub fn chain() -> Day {
         2_879 => 13,
         m => 11 - m.trailing_zeros(),
     };
-    let runs = (0..2_879)
-        .map(|m| [stop_at(m), stop_at(m + 1), m, m + 1, 1 + m])
-        .collect();
+    let runs = (0..2_879).map(|m| [stop_at(m), stop_at(m + 1), m, m + 1, 1 + m]).collect();
     Day { stops: 14, runs }
 }
 

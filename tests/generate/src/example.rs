@@ -73,12 +73,8 @@ pub fn cases() -> Vec<Case> {
         rides: rides.to_vec(),
     };
     let ask = |kind, from, to, t, t2| Ask { kind, from, to, t, t2 };
-    let mut without_run_2 = case(
-        "J",
-        ask(Kind::Early, MOOR, QUAY_N, 480, 0),
-        [0, 480, 530, 2],
-        &[0, 1],
-    );
+    let mut without_run_2 =
+        case("J", ask(Kind::Early, MOOR, QUAY_N, 480, 0), [0, 480, 530, 2], &[0, 1]);
     without_run_2.day.runs.remove(2);
     vec![
         case("A", ask(Kind::Early, MOOR, QUAY_N, 480, 0), [0, 480, 525, 2], &[0, 2]),

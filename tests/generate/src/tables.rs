@@ -127,8 +127,7 @@ pub fn arbitrary(rng: &mut Rng) -> (Sets, Day) {
                     } else {
                         pivot as u8
                     };
-                    let label =
-                        Label { hub: hub as u8, dep: dep as u16, arr: arr as u16, pivot };
+                    let label = Label { hub: hub as u8, dep: dep as u16, arr: arr as u16, pivot };
                     sets.stops[owner as usize][side].push(label);
                     dep += rng.between(1, 4);
                 }
@@ -390,10 +389,8 @@ pub fn great_counts() -> Vec<Vec<u8>> {
     all.push(head(2, &|i| [65_535, 1, 0, 0][i]));
     all.push(head(2, &|i| [65_535, 2, 0, 0][i]));
     for mut wrapped in all.clone() {
-        let sum: u32 = wrapped[2..]
-            .chunks(2)
-            .map(|c| u16::from_le_bytes([c[0], c[1]]) as u32)
-            .sum();
+        let sum: u32 =
+            wrapped[2..].chunks(2).map(|c| u16::from_le_bytes([c[0], c[1]]) as u32).sum();
         let len = wrapped.len() + 6 * (sum % 65_536) as usize;
         wrapped.resize(len, 0);
         all.push(wrapped);

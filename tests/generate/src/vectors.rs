@@ -87,8 +87,24 @@ pub fn texts() -> Vec<Text> {
     }
     // No line of any kind.
     for line in [
-        "", " ", "stop", "stopC", " stop C", "Stop C", "stop\tC", "end ", " end", "ends", "en",
-        "run", "runA B 1 2 3", " run A B 1 2 3", "run\tA B 1 2 3", "end\r", "#", "\0",
+        "",
+        " ",
+        "stop",
+        "stopC",
+        " stop C",
+        "Stop C",
+        "stop\tC",
+        "end ",
+        " end",
+        "ends",
+        "en",
+        "run",
+        "runA B 1 2 3",
+        " run A B 1 2 3",
+        "run\tA B 1 2 3",
+        "end\r",
+        "#",
+        "\0",
     ] {
         bad(2, 4, after_two_stops(&format!("{line}\nend\n")));
     }
@@ -308,20 +324,14 @@ pub fn asked() -> Vec<Asked> {
         },
         Asked {
             why: "a run gives no label when a higher stop has its pair: two rides are listed",
-            day: Day {
-                stops: 3,
-                runs: vec![[1, 2, 0, 10, 1], [1, 0, 0, 5, 1], [0, 2, 5, 10, 1]],
-            },
+            day: Day { stops: 3, runs: vec![[1, 2, 0, 10, 1], [1, 0, 0, 5, 1], [0, 2, 5, 10, 1]] },
             ask: early(1, 2, 0),
             answer: [0, 0, 10, 2],
             rides: vec![1, 2],
         },
         Asked {
             why: "a run goes before a lower stop between with its pair: one ride is listed",
-            day: Day {
-                stops: 3,
-                runs: vec![[0, 2, 0, 5, 1], [2, 1, 5, 10, 1], [0, 1, 0, 10, 1]],
-            },
+            day: Day { stops: 3, runs: vec![[0, 2, 0, 5, 1], [2, 1, 5, 10, 1], [0, 1, 0, 10, 1]] },
             ask: early(0, 1, 0),
             answer: [0, 0, 10, 1],
             rides: vec![2],
@@ -446,18 +456,44 @@ pub fn programs() -> Vec<Program> {
     add(asks("early MOOR HUB 481"), "no 2\n");
     add(asks("early MOOR HUB 481\n"), "no 16\n");
     for ill in [
-        "early", "early ", "early MOOR", "early MOOR HUB", "early MOOR HUB ", "early MOOR HUB 1 ",
-        "early MOOR HUB 1 2", "late MOOR HUB 1 2", "short MOOR HUB 1", "short MOOR HUB 1 2 3",
-        "early  MOOR HUB 1", " early MOOR HUB 1", "Early MOOR HUB 1", "earlyMOOR HUB 1",
-        "early MOOR HUB 01", "early MOOR HUB 100000", "early MOOR HUB 1x", "early MOOR HUB -1",
-        "short MOOR HUB 1 02", "short MOOR HUB 01 2", "early X X 00", "early MOOR HUB 1\r",
-        "stop MOOR", "run MOOR HUB 1 2 3", "timetable 1",
+        "early",
+        "early ",
+        "early MOOR",
+        "early MOOR HUB",
+        "early MOOR HUB ",
+        "early MOOR HUB 1 ",
+        "early MOOR HUB 1 2",
+        "late MOOR HUB 1 2",
+        "short MOOR HUB 1",
+        "short MOOR HUB 1 2 3",
+        "early  MOOR HUB 1",
+        " early MOOR HUB 1",
+        "Early MOOR HUB 1",
+        "earlyMOOR HUB 1",
+        "early MOOR HUB 01",
+        "early MOOR HUB 100000",
+        "early MOOR HUB 1x",
+        "early MOOR HUB -1",
+        "short MOOR HUB 1 02",
+        "short MOOR HUB 01 2",
+        "early X X 00",
+        "early MOOR HUB 1\r",
+        "stop MOOR",
+        "run MOOR HUB 1 2 3",
+        "timetable 1",
     ] {
         add(asks(&format!("{ill}\n")), "no 2\n");
     }
     for unknown in [
-        "early X HUB 1", "early HUB X 1", "early X X 99999", "early  HUB 1", "late HUB  1",
-        "early   1", "short X HUB 2 1", "early hub MOOR 1", "early HUBS MOOR 1",
+        "early X HUB 1",
+        "early HUB X 1",
+        "early X X 99999",
+        "early  HUB 1",
+        "late HUB  1",
+        "early   1",
+        "short X HUB 2 1",
+        "early hub MOOR 1",
+        "early HUBS MOOR 1",
     ] {
         add(asks(&format!("{unknown}\n")), "no 5\n");
     }

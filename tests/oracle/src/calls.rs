@@ -68,9 +68,7 @@ pub fn build(numbers: Numbers<'_>, tables: usize, room: Room) -> ([u32; 4], Vec<
     let result = numbers_judged(numbers, room).and_then(|day| rule::tables(&day));
     match built(result, tables) {
         Err(refusal) => (refusal.answer(), vec![0; tables]),
-        Ok((labels, bytes)) => {
-            ([0, bytes.len() as u32, labels as u32, 0], filled(&bytes, tables))
-        }
+        Ok((labels, bytes)) => ([0, bytes.len() as u32, labels as u32, 0], filled(&bytes, tables)),
     }
 }
 
@@ -131,8 +129,7 @@ pub fn ask_rides(
 ) -> ([u32; 4], Vec<u32>) {
     let result = tables_and_day(tables, numbers, room).and_then(|(tables, day)| {
         judge_ask(tables.stops, ask, from, to)?;
-        let sketch =
-            tables.chosen(ask, from as usize, to as usize).ok_or(Refusal::plain(16))?;
+        let sketch = tables.chosen(ask, from as usize, to as usize).ok_or(Refusal::plain(16))?;
         let rides = rides::of_sketch(&tables, &day, &sketch).ok_or(Refusal::plain(18))?;
         if list < rides.len() {
             return Err(Refusal::plain(17));
@@ -141,8 +138,6 @@ pub fn ask_rides(
     });
     match result {
         Err(refusal) => (refusal.answer(), vec![0; list]),
-        Ok(((dep, arr), rides)) => {
-            ([0, dep, arr, rides.len() as u32], filled(&rides, list))
-        }
+        Ok(((dep, arr), rides)) => ([0, dep, arr, rides.len() as u32], filled(&rides, list)),
     }
 }

@@ -33,9 +33,7 @@ impl Ask {
         match self {
             Ask::Early { .. } => p.1 < q.1 || (p.1 == q.1 && p.0 > q.0),
             Ask::Late { .. } => p.0 > q.0 || (p.0 == q.0 && p.1 < q.1),
-            Ask::Short { .. } => {
-                p.1 - p.0 < q.1 - q.0 || (p.1 - p.0 == q.1 - q.0 && p.0 < q.0)
-            }
+            Ask::Short { .. } => p.1 - p.0 < q.1 - q.0 || (p.1 - p.0 == q.1 - q.0 && p.0 < q.0),
         }
     }
 
@@ -129,11 +127,7 @@ pub fn dominates(q: Pair, p: Pair) -> bool {
 
 /// Those pairs that no pair of the same set dominates.
 pub fn undominated(pairs: &BTreeSet<Pair>) -> BTreeSet<Pair> {
-    pairs
-        .iter()
-        .copied()
-        .filter(|p| !pairs.iter().any(|q| dominates(*q, *p)))
-        .collect()
+    pairs.iter().copied().filter(|p| !pairs.iter().any(|q| dominates(*q, *p))).collect()
 }
 
 /// Relaxes arrivals until no run makes any stop earlier.

@@ -41,10 +41,7 @@ pub struct Day {
 impl Day {
     /// The five numbers of each run, run by run.
     pub fn numbers(&self) -> Vec<u32> {
-        self.runs
-            .iter()
-            .flat_map(|r| [r.from as u32, r.to as u32, r.dep, r.arr, r.trip])
-            .collect()
+        self.runs.iter().flat_map(|r| [r.from as u32, r.to as u32, r.dep, r.arr, r.trip]).collect()
     }
 }
 

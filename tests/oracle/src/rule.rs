@@ -60,12 +60,11 @@ pub fn labels(day: &Day) -> Vec<Label> {
                 continue;
             }
             for (d, a) in undominated(pairs) {
-                let reached =
-                    from_u.entry((u, d)).or_insert_with(|| earliest_from(day, u, d));
+                let reached = from_u.entry((u, d)).or_insert_with(|| earliest_from(day, u, d));
                 let leaves = to_v.entry((v, a)).or_insert_with(|| latest_to(day, v, a));
-                let lowest = (0..day.stops).filter(|w| *w != u && *w != v).find(|w| {
-                    matches!((reached[*w], leaves[*w]), (Some(at), Some(on)) if at <= on)
-                });
+                let lowest = (0..day.stops).filter(|w| *w != u && *w != v).find(
+                    |w| matches!((reached[*w], leaves[*w]), (Some(at), Some(on)) if at <= on),
+                );
                 if lowest.map_or(false, |w| w < u && w < v) {
                     continue;
                 }

@@ -59,11 +59,7 @@ pub fn check(tables: &Tables, day: &Day) -> Result<(), Refusal> {
                 continue;
             }
             // By when the tables must have the rider at v, if at all.
-            let by = if v == run.to {
-                Some(run.arr)
-            } else {
-                arrivals.early(run.to, v, run.arr)
-            };
+            let by = if v == run.to { Some(run.arr) } else { arrivals.early(run.to, v, run.arr) };
             let Some(by) = by else { continue };
             let gap = match arrivals.early(run.from, v, run.dep) {
                 None => true,

@@ -86,7 +86,10 @@ fn reader_room() {
     for (runs, codes) in [(20_479, 510), (20_480, 509), (0, 0)] {
         // 17 whatever the text holds, also before the text's length.
         for text in [T, b"", &[b'x'; 1_048_577]] {
-            assert_eq!(calls::read(text, runs, codes), ([17, 0, 0, 0], vec![0; runs], vec![0; codes]));
+            assert_eq!(
+                calls::read(text, runs, codes),
+                ([17, 0, 0, 0], vec![0; runs], vec![0; codes])
+            );
         }
     }
     let (answer, runs, codes) = calls::read(T, 20_485, 517);
@@ -131,10 +134,7 @@ fn tables_at_their_limits() {
     }
     assert!(judge_tables(&[1, 1, 0, 0, 0, 0]).unwrap().labels.is_empty());
     // A first stop has no hub below it, so any label of it is not good.
-    assert_eq!(
-        judge_tables(&[1, 1, 1, 0, 0, 0, 0, 1, 0, 2, 0, 255]),
-        Err(Refusal::at(11, 0))
-    );
+    assert_eq!(judge_tables(&[1, 1, 1, 0, 0, 0, 0, 1, 0, 2, 0, 255]), Err(Refusal::at(11, 0)));
 }
 
 #[test]
@@ -165,7 +165,7 @@ fn labels_not_good() {
     assert_eq!(changed(1, 5, 254), bad(1));
     assert_eq!(changed(1, 5, 255), Ok(()));
     assert_eq!(changed(1, 0, 1), bad(1)); // pivot not above its new hub
-    // Another set begins at label 2: nothing of label 1 counts for it.
+                                          // Another set begins at label 2: nothing of label 1 counts for it.
     assert_eq!(changed(2, 0, 1), Ok(()));
     assert_eq!(changed(2, 1, 1), bad(2));
 }
@@ -209,16 +209,10 @@ fn ties_between_sketches() {
     let tables = judge_tables(&sets.bytes()).unwrap();
     assert_eq!(verdict::check(&tables, &day), Ok(()));
     assert_ne!(tables, rule::tables(&day).unwrap());
-    assert_eq!(
-        with_rides(&sets.bytes(), &asked.day, asked.ask),
-        (asked.answer, asked.rides)
-    );
+    assert_eq!(with_rides(&sets.bytes(), &asked.day, asked.ask), (asked.answer, asked.rides));
     for lower_opens in [true, false] {
         let (sets, asked) = vectors::hubs_tie(lower_opens);
-        assert_eq!(
-            with_rides(&sets.bytes(), &asked.day, asked.ask),
-            (asked.answer, asked.rides)
-        );
+        assert_eq!(with_rides(&sets.bytes(), &asked.day, asked.ask), (asked.answer, asked.rides));
     }
 }
 

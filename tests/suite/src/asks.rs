@@ -1,7 +1,8 @@
 //! Tests of `kiosk_early`, `kiosk_late` and `kiosk_short`.
 
 use crate::calls::ask;
-use crate::check::{each_damage, own, with_labels_added};
+use crate::check::{each_damage, with_labels_added};
+use crate::limits::{self, own};
 use crate::Asks;
 use generate::asks::{self, Ask, Kind, KINDS};
 use generate::tables::{self, Sets};
@@ -140,14 +141,11 @@ pub fn odd_asks<S: Asks>() {
 
 pub fn tables_at_the_limits<S: Asks>() {
     let mut rng = Rng::new(13);
-    for sets in [
-        tables::star(8_192),
-        own(&days::city(&mut rng)).unwrap(),
-        own(&days::chain()).unwrap(),
-        own(&days::with_labels(8_192)).unwrap(),
-        tables::deep(true).0,
-    ] {
-        some_asks::<S>(&mut rng, &sets, 200);
+    for (_, sets) in limits::with_tables() {
+        some_asks::<S>(&mut rng, sets, 100);
+    }
+    for sets in [tables::star(8_192), tables::deep(true).0] {
+        some_asks::<S>(&mut rng, &sets, 100);
     }
     // All labels at two stops, the longest join there is; and of one owner.
     let (two, one) = (tables::one_stop(8_192).bytes(), tables::one_owner(8_192).bytes());

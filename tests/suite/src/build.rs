@@ -1,10 +1,10 @@
 //! Tests of `kiosk_build`.
 
 use crate::calls::{build, build_expecting, Given};
+use crate::limits::{self, own};
 use crate::Builds;
 use generate::days::{self, Day};
 use generate::{each_seed, example, vectors, Rng};
-use oracle::calls::{self as right, Numbers, Room};
 
 /// Room for any tables there can be, and some.
 const ANY_TABLES: usize = 2 + 4 * 255 + 6 * 8_192 + 11;
@@ -56,22 +56,31 @@ pub fn room<S: Builds>() {
     }
 }
 
-/// Builds with the tables' exact length, or now and then another.
+/// Builds with the tables' exact length, and now and then with others.
 fn built<S: Builds>(rng: &mut Rng, day: &Day) {
-    let given = Given::new(day);
-    let numbers = Numbers { stops: given.stops, run_count: given.run_count, runs: &given.runs };
-    let room = Room { lent: S::build_room(), needs: S::build_room() };
-    let (answer, mut tables) = right::build(numbers, ANY_TABLES, room);
-    let length = if answer[0] == 0 { answer[1] as usize } else { 100 };
-    tables.truncate(length);
-    build_expecting::<S>(&given, S::build_room(), (answer, tables.clone()));
-    if rng.one_in(8) {
-        let short = rng.below(length as u32) as usize;
-        let seventeen = if answer[0] == 0 { [17, 0, 0, 0] } else { answer };
-        build_expecting::<S>(&given, S::build_room(), (seventeen, vec![0; short]));
-        build_expecting::<S>(&given, S::build_room(), (seventeen, vec![0; length - 1]));
-        tables.resize(length + rng.between(1, 300) as usize, 0);
-        build_expecting::<S>(&given, S::build_room() + 17, (answer, tables));
+    let tables = own(day).map(|sets| sets.bytes());
+    built_expecting::<S>(day, tables, rng.one_in(8));
+}
+
+/// The same where the rule's tables are known; none stands for 22.
+fn built_expecting<S: Builds>(day: &Day, tables: Option<Vec<u8>>, each_length: bool) {
+    let (given, room) = (Given::new(day), S::build_room());
+    let (answer, mut tables) = match tables {
+        None => ([22, 0, 0, 0], vec![0; 100]),
+        Some(tables) => {
+            let labels = (tables.len() - 2 - 4 * day.stops as usize) / 6;
+            ([0, tables.len() as u32, labels as u32, 0], tables)
+        }
+    };
+    build_expecting::<S>(&given, room, (answer, tables.clone()));
+    if each_length {
+        let length = tables.len();
+        let too_short = if answer[0] == 0 { [17, 0, 0, 0] } else { answer };
+        for short in [0, length / 2, length - 1] {
+            build_expecting::<S>(&given, room, (too_short, vec![0; short]));
+        }
+        tables.resize(length + 100, 0);
+        build_expecting::<S>(&given, room + 17, (answer, tables));
     }
 }
 
@@ -129,16 +138,16 @@ pub fn damaged_numbers<S: Builds>() {
 }
 
 pub fn counts_at_the_edges<S: Builds>() {
-    let mut rng = Rng::new(3);
-    let full = days::one_pair(&mut rng).numbers();
+    let full = days::one_pair(&mut Rng::new(3)).numbers();
     for stops in days::STOP_COUNTS {
         for run_count in days::RUN_COUNTS {
             for len in [0, 4, 5, 20_474, 20_475, 20_479, 20_480] {
-                let given = Given { stops, run_count, runs: full[..len].to_vec() };
-                // The long days that are good are built in another test.
-                if stops == 2 && len >= 20_475 && run_count == 4_096 {
+                // Long days that are good are built in another test.
+                let good = (2..=255).contains(&stops) && run_count <= 4_096;
+                if good && run_count > 1 && len as u32 >= 5 * run_count {
                     continue;
                 }
+                let given = Given { stops, run_count, runs: full[..len].to_vec() };
                 build::<S>(&given, 10, S::build_room());
             }
         }
@@ -146,44 +155,27 @@ pub fn counts_at_the_edges<S: Builds>() {
 }
 
 pub fn label_limit<S: Builds>() {
-    for labels in [8_191, 8_192, 8_193, 8_194, 9_000] {
-        let given = Given::new(&days::with_labels(labels));
-        let length = 2 + 4 * 12 + 6 * labels as usize;
-        for tables in [0, length - 1, length, length + 1] {
-            let answer = build::<S>(&given, tables, S::build_room());
-            let number = match labels {
-                0..=8_192 if tables < length => 17,
-                0..=8_192 => 0,
-                _ => 22,
-            };
-            assert_eq!(answer[0], number);
-        }
+    for (labels, known) in [(8_192, limits::full()), (8_193, limits::over_full())] {
+        let count = known.sets.as_ref().map(|sets| sets.count());
+        assert_eq!(count, (labels == 8_192).then_some(labels));
+        let tables = known.sets.as_ref().map(|sets| sets.bytes());
+        built_expecting::<S>(&known.day, tables, true);
+    }
+    for labels in [8_191, 8_194, 9_000] {
+        let day = days::with_labels(labels);
+        built_expecting::<S>(&day, own(&day).map(|sets| sets.bytes()), true);
     }
 }
 
-pub fn long_chain<S: Builds>() {
-    let answer = build::<S>(&Given::new(&days::chain()), ANY_TABLES, S::build_room());
-    assert_eq!(answer[0], 0);
-}
-
 pub fn days_at_the_limits<S: Builds>() {
+    for known in limits::all() {
+        let tables = known.sets.as_ref().map(|sets| sets.bytes());
+        built_expecting::<S>(&known.day, tables, true);
+    }
     let mut rng = Rng::new(5);
-    for day in [
-        days::city(&mut rng),
-        days::fullest(),
-        days::sprawl(&mut rng),
-        days::one_pair(&mut rng),
-        days::many_ties(&mut rng),
-        days::shuttle(),
-        days::random(
-            &mut rng,
-            days::Shape { stops: 3, runs: 4_096, first: 0, last: 2_879, longest: 2_879 },
-        ),
-        days::random(
-            &mut rng,
-            days::Shape { stops: 255, runs: 600, first: 0, last: 2_879, longest: 300 },
-        ),
-    ] {
+    let long = days::Shape { stops: 3, runs: 4_096, first: 0, last: 2_879, longest: 2_879 };
+    let wide = days::Shape { stops: 255, runs: 600, first: 0, last: 2_879, longest: 300 };
+    for day in [days::shuttle(), days::random(&mut rng, long), days::random(&mut rng, wide)] {
         built::<S>(&mut rng, &day);
     }
 }

@@ -94,9 +94,8 @@ pub fn build_expecting<S: Builds>(
         work.part(),
         four(&mut answer),
     );
-    let context = || {
-        format!("build of {}; tables {}, room {room}", given.shown(), right_tables.len())
-    };
+    let context =
+        || format!("build of {}; tables {}, room {room}", given.shown(), right_tables.len());
     answer.must_hold("answer", &right_answer, &context);
     tables.must_hold("tables", &right_tables, &context);
     work.must_be_zero("working room", &context);
@@ -108,16 +107,8 @@ pub fn check<S: Checks>(tables: &[u8], given: &Given, room: usize) -> [u32; 4] {
     count_call();
     let mut work = Lent::new(room);
     let mut answer = Lent::new(4);
-    S::check(
-        tables,
-        given.stops,
-        given.run_count,
-        &given.runs,
-        work.part(),
-        four(&mut answer),
-    );
-    let right =
-        right::check(tables, given.numbers(), Room { lent: room, needs: S::check_room() });
+    S::check(tables, given.stops, given.run_count, &given.runs, work.part(), four(&mut answer));
+    let right = right::check(tables, given.numbers(), Room { lent: room, needs: S::check_room() });
     let context = || format!("check of {}; {}; room {room}", shown_bytes(tables), given.shown());
     answer.must_hold("answer", &right, &context);
     work.must_be_zero("working room", &context);

@@ -1,19 +1,12 @@
 //! Tests of `kiosk_check`.
 
 use crate::calls::{check, Given};
+use crate::limits::{self, own};
 use crate::Checks;
 use generate::days::{self, Day};
 use generate::tables::{self, Sets, NO_PIVOT};
 use generate::{each_seed, example, vectors, Rng};
-use oracle::kinds::judge_numbers;
-use oracle::rule;
 use oracle::tables::judge_tables;
-
-/// The rule's tables of a day, if they keep within 8,192 labels.
-pub fn own(day: &Day) -> Option<Sets> {
-    let day = judge_numbers(day.stops, day.run_count(), &day.numbers(), true).unwrap();
-    rule::tables(&day).ok().map(|tables| Sets::from_bytes(&tables.bytes()))
-}
 
 /// Tables of the rule with labels for some of the runs that have none: still
 /// good and accepted, but not the rule's. Here single labels tie with joined
@@ -260,19 +253,10 @@ pub fn damaged_numbers<S: Checks>() {
 
 pub fn tables_at_the_limits<S: Checks>() {
     let mut rng = Rng::new(9);
-    for day in [
-        days::city(&mut rng),
-        days::fullest(),
-        days::chain(),
-        days::with_labels(8_192),
-        days::one_pair(&mut rng),
-        days::many_ties(&mut rng),
-    ] {
-        let sets = own(&day).unwrap();
-        assert_eq!(checked::<S>(&sets, &day), [0, 0, 0, 0]);
+    for (day, sets) in limits::with_tables() {
+        assert_eq!(checked::<S>(sets, day), [0, 0, 0, 0]);
         let k = sets.count() - 1;
-        assert_ne!(checked::<S>(&sets.without(k), &day)[0], 0);
-        assert_ne!(checked::<S>(&sets.without(k / 2), &day)[0], 0);
+        assert_ne!(checked::<S>(&sets.without(k / 2), day)[0], 0);
     }
     // All labels at two stops, in a star or of one owner, each with its run.
     for sets in [tables::one_stop(4_096), tables::star(4_096), tables::one_owner(4_096)] {

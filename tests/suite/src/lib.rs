@@ -14,6 +14,7 @@ pub mod calls;
 pub mod check;
 pub mod journey;
 pub mod lent;
+pub mod limits;
 pub mod read;
 pub mod rides;
 pub mod room;
@@ -147,52 +148,119 @@ macro_rules! area {
 #[macro_export]
 macro_rules! read_tests {
     ($subject:ty) => {
-        $crate::area!(read, $subject, [
-            example, vectors, room, prefixes_of_t, bytes_of_t_changed, bytes_of_t_moved,
-            lines_of_t_moved, good_texts, damaged_texts, texts_at_the_limit,
-        ]);
+        $crate::area!(
+            read,
+            $subject,
+            [
+                example,
+                vectors,
+                room,
+                prefixes_of_t,
+                bytes_of_t_changed,
+                bytes_of_t_moved,
+                lines_of_t_moved,
+                good_texts,
+                damaged_texts,
+                texts_at_the_limit,
+            ]
+        );
     };
 }
 
 #[macro_export]
 macro_rules! build_tests {
     ($subject:ty) => {
-        $crate::area!(build, $subject, [
-            example, vectors, room, tiny_days, ties, there_and_back, middling_days, any_small_day,
-            damaged_numbers, counts_at_the_edges, label_limit, long_chain, days_at_the_limits,
-        ]);
+        $crate::area!(
+            build,
+            $subject,
+            [
+                example,
+                vectors,
+                room,
+                tiny_days,
+                ties,
+                there_and_back,
+                middling_days,
+                any_small_day,
+                damaged_numbers,
+                counts_at_the_edges,
+                label_limit,
+                days_at_the_limits,
+            ]
+        );
     };
 }
 
 #[macro_export]
 macro_rules! check_tests {
     ($subject:ty) => {
-        $crate::area!(check, $subject, [
-            example, vectors, room, order_of_refusals, damaged_tables, own_tables, every_label_removed,
-            nudged_labels, labels_added, other_days, arbitrary_tables, damaged_numbers,
-            tables_at_the_limits,
-        ]);
+        $crate::area!(
+            check,
+            $subject,
+            [
+                example,
+                vectors,
+                room,
+                order_of_refusals,
+                damaged_tables,
+                own_tables,
+                every_label_removed,
+                nudged_labels,
+                labels_added,
+                other_days,
+                arbitrary_tables,
+                damaged_numbers,
+                tables_at_the_limits,
+            ]
+        );
     };
 }
 
 #[macro_export]
 macro_rules! asks_tests {
     ($subject:ty) => {
-        $crate::area!(asks, $subject, [
-            cases, vectors, order_of_refusals, damaged_tables, every_ask_of_t, own_tables,
-            arbitrary_tables, every_ask_of_small_tables, odd_asks, tables_at_the_limits,
-        ]);
+        $crate::area!(
+            asks,
+            $subject,
+            [
+                cases,
+                vectors,
+                order_of_refusals,
+                damaged_tables,
+                every_ask_of_t,
+                own_tables,
+                arbitrary_tables,
+                every_ask_of_small_tables,
+                odd_asks,
+                tables_at_the_limits,
+            ]
+        );
     };
 }
 
 #[macro_export]
 macro_rules! rides_tests {
     ($subject:ty) => {
-        $crate::area!(rides, $subject, [
-            cases, vectors, room, order_of_refusals, damaged_tables, own_tables, labels_added,
-            arbitrary_tables, runs_missing, odd_asks, damaged_numbers, long_chain, deep_tables,
-            tables_at_the_limits,
-        ]);
+        $crate::area!(
+            rides,
+            $subject,
+            [
+                cases,
+                vectors,
+                room,
+                order_of_refusals,
+                damaged_tables,
+                own_tables,
+                labels_added,
+                arbitrary_tables,
+                runs_missing,
+                odd_asks,
+                damaged_numbers,
+                long_chain,
+                deep_tables,
+                tables_at_the_limits,
+            ]
+        );
     };
 }
 
@@ -206,9 +274,18 @@ macro_rules! room_tests {
 #[macro_export]
 macro_rules! journey_tests {
     ($subject:ty) => {
-        $crate::area!(journey, $subject, [
-            vectors, random_inputs, damaged_timetables, cut_inputs, input_at_the_limit,
-            too_many_labels, much_output,
-        ]);
+        $crate::area!(
+            journey,
+            $subject,
+            [
+                vectors,
+                random_inputs,
+                damaged_timetables,
+                cut_inputs,
+                input_at_the_limit,
+                too_many_labels,
+                much_output,
+            ]
+        );
     };
 }

@@ -1,7 +1,8 @@
 //! Tests of `kiosk_early_rides`, `kiosk_late_rides` and `kiosk_short_rides`.
 
 use crate::calls::{ask_rides, Given};
-use crate::check::{each_damage, own, with_labels_added};
+use crate::check::{each_damage, with_labels_added};
+use crate::limits::{self, own};
 use crate::Rides;
 use generate::asks::{self, Ask, Kind, KINDS};
 use generate::days::{self, Day};
@@ -61,12 +62,19 @@ pub fn vectors<S: Rides>() {
         let sets = own(&asked.day).unwrap();
         must_list::<S>(&sets, &asked.day, asked.ask, asked.answer, &asked.rides);
     }
-    for (sets, asked) in [
-        vectors::single_ties_with_joined(),
-        vectors::hubs_tie(true),
-        vectors::hubs_tie(false),
-    ] {
+    for (sets, asked) in
+        [vectors::single_ties_with_joined(), vectors::hubs_tie(true), vectors::hubs_tie(false)]
+    {
         must_list::<S>(&sets, &asked.day, asked.ask, asked.answer, &asked.rides);
+    }
+    for v in vectors::numbers() {
+        let given = Given { stops: v.stops, run_count: v.run_count, runs: v.runs };
+        let tables = Sets::new(v.stops.clamp(1, 255)).bytes();
+        let ask = Ask { kind: Kind::Early, from: 0, to: 1, t: 0, t2: 0 };
+        let (answer, _) = listed::<S>(&tables, &given, ask, 3);
+        if v.refusal.0 != 0 {
+            assert_eq!((answer[0], answer[1]), v.refusal);
+        }
     }
 }
 
@@ -221,8 +229,9 @@ pub fn damaged_numbers<S: Rides>() {
 }
 
 pub fn long_chain<S: Rides>() {
-    let day = days::chain();
-    let (bytes, given) = (own(&day).unwrap().bytes(), Given::new(&day));
+    let day = &limits::chain().day;
+    let bytes = limits::chain().sets.as_ref().unwrap().bytes();
+    let given = Given::new(day);
     let (from, to) = days::CHAIN_ENDS;
     for kind in KINDS {
         let t = if kind == Kind::Late { 2_879 } else { 0 };
@@ -264,7 +273,7 @@ pub fn deep_tables<S: Rides>() {
             let answer = listed::<S>(&bytes, &Given::new(&fewer), ask, 0).0;
             assert_eq!(answer, [18, 0, 0, 0]);
         }
-        for _ in 0..30 {
+        for _ in 0..15 {
             let changed = tables::nudged(&mut rng, &sets);
             listed::<S>(&changed.bytes(), &given, ask, 2_879);
             let k = rng.below(sets.count() as u32) as usize;
@@ -275,14 +284,8 @@ pub fn deep_tables<S: Rides>() {
 
 pub fn tables_at_the_limits<S: Rides>() {
     let mut rng = Rng::new(19);
-    for day in [
-        days::city(&mut rng),
-        days::fullest(),
-        days::with_labels(8_192),
-        days::one_pair(&mut rng),
-    ] {
-        let sets = own(&day).unwrap();
-        some_asks::<S>(&mut rng, &sets, &day, 60);
+    for (day, sets) in limits::with_tables() {
+        some_asks::<S>(&mut rng, sets, day, 40);
     }
     let sets = tables::one_stop(4_096);
     let day = tables::a_run_each(&sets);

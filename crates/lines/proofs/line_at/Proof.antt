@@ -1,6 +1,6 @@
 use mathlib.Core.Path.{sym, _∙_}
 use native.Mathlib.Omega.{arith}
-use borrow.Author.Tests.{eq-eqb, ne-eqb}
+use borrow.Author.Tests.{lt-ltb, le-ltb}
 use Rattle.words.specs.WordsLaws.{begins-long}
 use Rattle.lines.specs.Lines.{lineOf}
 use borrow.Author.Needs.{needs}
@@ -65,7 +65,7 @@ returns-3 c =
     let w = c .before .before in
     let f₂ = w .before .before in
     let f₁ = f₂ .before .before .before in
-    simp (sym (f₁ .before .begins .ensures) ∙ f₁ .if1 .left, sym (f₂ .before .begins2 .ensures) ∙ f₂ .if2 .left, sym (w .is-word .ensures) ∙ c .before .if3 .taken, eq-eqb _ _ (c .if4 .taken))
+    simp (sym (f₁ .before .begins .ensures) ∙ f₁ .if1 .left, sym (f₂ .before .begins2 .ensures) ∙ f₂ .if2 .left, sym (w .is-word .ensures) ∙ c .before .if3 .taken, lt-ltb _ _ (c .if4 .taken))
 
 returns-4 : tie.Need-returns-4
 unfolding lineOf
@@ -73,7 +73,7 @@ returns-4 c =
     let w = c .before .before in
     let f₂ = w .before .before in
     let f₁ = f₂ .before .before .before in
-    simp (sym (f₁ .before .begins .ensures) ∙ f₁ .if1 .left, sym (f₂ .before .begins2 .ensures) ∙ f₂ .if2 .left, sym (w .is-word .ensures) ∙ c .before .if3 .taken, ne-eqb _ _ (c .if4 .left))
+    simp (sym (f₁ .before .begins .ensures) ∙ f₁ .if1 .left, sym (f₂ .before .begins2 .ensures) ∙ f₂ .if2 .left, sym (w .is-word .ensures) ∙ c .before .if3 .taken, le-ltb _ _ (c .if4 .left))
 
 returns-5 : tie.Need-returns-5
 unfolding lineOf

@@ -1,4 +1,4 @@
-use mathlib.Core.Path.{refl}
+use native.Mathlib.Nat.{add-assoc}
 use native.Mathlib.Omega.{arith}
 use lib.ListN.{length-set}
 use Rattle.reader.specs.Text.{putRun}
@@ -73,7 +73,7 @@ same-length c = search needs
 
 returns : tie.Need-returns
 unfolding putRun
-returns c = refl
+returns c = simp add-assoc
 
 pub put-run-spec : {M : Type 1} → statement M
 put-run-spec =

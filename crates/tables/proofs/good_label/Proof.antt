@@ -1,6 +1,6 @@
 use mathlib.Core.Path.{sym, _∙_}
 use borrow.Author.Tests.{eq-eqb, ne-eqb}
-use Rattle.tables.specs.File.{goodLabel}
+use Rattle.tables.specs.Judged.{goodLabel}
 use borrow.Author.Needs.{needs}
 use Rattle.tables.proofs.good_label.Statement.{statement}
 use Rattle.tables.proofs.good_label.Tie as tie

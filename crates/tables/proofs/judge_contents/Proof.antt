@@ -1,6 +1,5 @@
-use mathlib.Core.Path.{_≡_, sym, ap, _∙_}
+use mathlib.Core.Path.{sym, ap, _∙_}
 use native.Mathlib.Omega.{arith}
-use denote.Ref.{now}
 use Rattle.tables.specs.declared.TablesRead.the-variants.{No, Good}
 use Rattle.tables.specs.JudgeLaws.{read-good, read-bad, cut-short, over-limit, length-differs, by-labels}
 use borrow.Author.Needs.{needs}

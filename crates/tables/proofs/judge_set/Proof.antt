@@ -1,11 +1,11 @@
 use borrow.Author.Needs.{needs}
-use Prim.Native.Nat.{ℕ, _≤_, _-_}
+use Prim.Native.Nat.{_≤_, _-_}
 use mathlib.Core.Path.{_≡_, sym, ap, _∙_}
 use native.Mathlib.Omega.{arith}
 use borrow.Author.Tests.{not-true, not-false}
 use Rattle.loops.specs.FirstOf.{firstOf}
-use Rattle.tables.specs.File.{badLabel}
-use Rattle.tables.specs.JudgeLaws.{labelsRead, Passed, passed-none, passed-more, passed-bad}
+use Rattle.tables.specs.Turns.{labelsRead}
+use Rattle.tables.specs.JudgeLaws.{Passed, passed-none, passed-more, passed-bad}
 use Rattle.tables.proofs.judge_set.Statement.{statement}
 use Rattle.tables.proofs.judge_set.Tie as tie
 use Rattle.tables.proofs.judge_set.Reads as reads
@@ -14,10 +14,10 @@ use Rattle.tables.proofs.good_label.Reads as good-label-reads
 use Rattle.tables.proofs.label_at.Reads as label-at-reads
 
 abbrev Inv-loop : tie.InvT-loop
-Inv-loop bytes n set start count owner before₀ i₀ before i = (i ≤ count) × Passed bytes set i before
+Inv-loop bytes n set start count owner hub₀ dep₀ arr₀ i₀ hub dep arr i = (i ≤ count) × Passed bytes set i hub dep arr
 
 abbrev μ-loop : tie.MeasureT-loop
-μ-loop bytes n set start count owner before₀ i₀ before i = count - i
+μ-loop bytes n set start count owner hub₀ dep₀ arr₀ i₀ hub dep arr i = count - i
 
 cast-owner : tie.Need-cast-owner Inv-loop μ-loop
 cast-owner c = search needs
@@ -34,11 +34,11 @@ label-at-requires c κs = search needs
 good-label-requires : tie.Need-good-label-requires Inv-loop μ-loop
 good-label-requires c κs = search needs
 
-add-t14 : tie.Need-add-t14 Inv-loop μ-loop
-add-t14 c = search needs
+add-t16 : tie.Need-add-t16 Inv-loop μ-loop
+add-t16 c = search needs
 
-cast-t15 : tie.Need-cast-t15 Inv-loop μ-loop
-cast-t15 c = search needs
+cast-t17 : tie.Need-cast-t17 Inv-loop μ-loop
+cast-t17 c = search needs
 
 returns : tie.Need-returns Inv-loop μ-loop
 returns c =
@@ -80,8 +80,8 @@ judge-set-spec =
     add-label-at
     label-at-requires
     good-label-requires
-    add-t14
-    cast-t15
+    add-t16
+    cast-t17
     returns
     add-i
     loop-less

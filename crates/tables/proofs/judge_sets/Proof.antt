@@ -1,13 +1,15 @@
 use borrow.Author.Needs.{needs}
-use Prim.Native.Nat.{ℕ, _≤_, _<_, _+_, _*_, _-_}
+use Prim.Native.Nat.{_≤_, _<_, _*_, _-_}
 use mathlib.Core.Path.{_≡_, sym, ap, _∙_}
 use mathlib.Core.Option.{none}
 use native.Mathlib.Omega.{arith}
 use Rattle.loops.specs.FirstOf.{firstOf}
 use Rattle.loops.specs.FirstOfLaws.{first-of-none, first-of-more, first-of-here}
-use Rattle.tables.specs.File.{stopsOf, startOf, badInSet}
+use Rattle.tables.specs.File.{stopsOf, startOf}
+use Rattle.tables.specs.Judged.{badInSet}
 use Rattle.tables.specs.FileLaws.{start-none, start-more, end-within}
-use Rattle.tables.specs.JudgeLaws.{labelsRead, read-good, read-bad}
+use Rattle.tables.specs.Turns.{labelsRead}
+use Rattle.tables.specs.JudgeLaws.{read-good, read-bad}
 use Rattle.tables.proofs.judge_sets.Statement.{statement}
 use Rattle.tables.proofs.judge_sets.Tie as tie
 use Rattle.tables.proofs.judge_sets.Reads as reads

@@ -1,4 +1,3 @@
-use borrow.Author.Needs.{needs}
 use borrow.Author.Tests.{eq-eqb, ne-eqb}
 use Rattle.tables.proofs.pivot_read.Statement.{statement}
 use Rattle.tables.proofs.pivot_read.Tie as tie

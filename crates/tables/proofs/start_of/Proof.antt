@@ -1,6 +1,6 @@
 use borrow.Author.Needs.{needs}
 use Prim.Native.Nat.{_≤_, _*_, _-_, _+_}
-use mathlib.Core.Path.{_≡_, sym, ap, _∙_}
+use mathlib.Core.Path.{_≡_, sym}
 use native.Mathlib.Omega.{arith}
 use Rattle.tables.specs.File.{startOf}
 use Rattle.tables.specs.FileLaws.{start-none, start-more}

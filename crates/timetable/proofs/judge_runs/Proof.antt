@@ -5,7 +5,7 @@ use mathlib.Core.Option.{none}
 use native.Mathlib.Omega.{arith}
 use Rattle.loops.specs.FirstOf.{firstOf}
 use Rattle.loops.specs.FirstOfLaws.{first-of-none, first-of-more, first-of-here}
-use Rattle.timetable.specs.declared.Judged.the-variants.{Good, No}
+use Rattle.timetable.specs.declared.Judged.the-variants.{No}
 use Rattle.timetable.specs.Numbers.{refusedBy, refusedRun, judgedBy}
 use Rattle.timetable.proofs.judge_runs.Statement.{statement}
 use Rattle.timetable.proofs.judge_runs.Tie as tie
