@@ -1,5 +1,5 @@
 -- How many numbers there are such that.
-use Prim.Native.Nat.{ℕ, zero, suc, _+_, _≤_, _<_}
+use Prim.Native.Nat.{ℕ, suc, _≤_, _<_}
 use mathlib.Core.Path.{_≡_}
 
 -- k of the numbers from m up to, not including, `top` have P
@@ -7,8 +7,3 @@ pub data CountFrom (P : ℕ → Type 0) (top : ℕ) : ℕ → ℕ → Type 0 whe
   past : {m k : ℕ} → top ≤ m → k ≡ 0 → CountFrom P top m k
   has : {m j k : ℕ} → m < top → P m → CountFrom P top (suc m) j → k ≡ suc j → CountFrom P top m k
   lacks : {m k : ℕ} → m < top → ¬ (P m) → CountFrom P top (suc m) k → CountFrom P top m k
-
--- f 0 + f 1 + .. up to, not including, f n
-unfoldable pub sumTo : (ℕ → ℕ) → ℕ → ℕ
-sumTo f zero = 0
-sumTo f (suc n) = sumTo f n + f n

@@ -1,8 +1,11 @@
 pub mod Count
-pub mod Labels
-pub mod Found
 pub mod CountLaws
+pub mod Sums
+pub mod SumLaws
+pub mod Labels
 pub mod LabelLaws
+pub mod RowLaws
+pub mod Found
 pub mod TallyLaws
 pub mod Walk
 pub mod WalkLaws
