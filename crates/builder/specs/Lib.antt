@@ -10,3 +10,5 @@ pub mod TallyLaws
 pub mod Walk
 pub mod WalkLaws
 pub mod StepLaws
+pub mod Sets
+pub mod SetLaws
