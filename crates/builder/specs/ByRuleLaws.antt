@@ -42,7 +42,7 @@ starts-are {c} F (suc set) h = omega (arith, starts-are F set (omega arith), F .
 
 module _ {S : Service} (G : GoodService S) {u v d a : ℕ} {p : Option ℕ} (r : Rule S u v d a p) where
   -- the pivot of a label, by stop numbers
-  pivot-numbers : (w : ℕ) → p ≡ some w → (min u v < w) × (w < S .stops) × (w ≢ u) × (w ≢ v)
+  pub pivot-numbers : (w : ℕ) → p ≡ some w → (min u v < w) × (w < S .stops) × (w ≢ u) × (w ≢ v)
   pivot-numbers w e = go (subst (Pivot S u v d a) e (r .pivot))
     where
       at : Via S u w v d a → (min u v < w) × (w < S .stops) × (w ≢ u) × (w ≢ v)

@@ -2,3 +2,5 @@ pub mod Places
 pub mod PlaceLaws
 pub mod Framed
 pub mod ByRuleLaws
+pub mod Put
+pub mod PutLaws
