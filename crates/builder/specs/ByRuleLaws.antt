@@ -31,7 +31,7 @@ use Rattle.builder.specs.PlaceLaws.{set-out, set-in, group-out, group-in
 use Rattle.builder.specs.Framed.{Framed, Holds}
 
 -- a stop has no labels to itself
-no-itself : {S : Service} {u c : ℕ} {row : ℕ → Timed} → PairLabels S u u c row → c ≡ 0
+pub no-itself : {S : Service} {u c : ℕ} {row : ℕ → Timed} → PairLabels S u u c row → c ≡ 0
 no-itself {c = c} p = elim (ℕ-discrete c 0) [ yes e ↦ e | no n ↦ absurd (p .sound 0 (omega arith) .apart refl) ]
 
 -- the sets begin where the counts before them end

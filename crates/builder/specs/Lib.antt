@@ -4,3 +4,5 @@ pub mod Framed
 pub mod ByRuleLaws
 pub mod Put
 pub mod PutLaws
+pub mod Writing
+pub mod WritingLaws
