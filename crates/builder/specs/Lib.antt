@@ -6,3 +6,4 @@ pub mod Put
 pub mod PutLaws
 pub mod Writing
 pub mod WritingLaws
+pub mod TurnLaws
