@@ -31,6 +31,24 @@ void kiosk_late(const uint8_t *tables, size_t tables_length, uint32_t from, uint
  * Refuses 9, 10, 11, 12, 13, 14, 15 (t > t2), 16. */
 void kiosk_short(const uint8_t *tables, size_t tables_length, uint32_t from, uint32_t to, uint32_t t, uint32_t t2, uint32_t answer[4]);
 
+/* The check: whether these tables, whoever made them, give every ask this timetable's best. Answer {0, 0, 0, 0} where they are accepted.
+ * Given numbers: stops, run_count, and FROM TO DEP ARR TRIP for each run. work: at least kiosk_check_room() numbers, all zero afterwards.
+ * Refuses 9, 10, 11; 8, 17, 5, 6, 7 (the run as place); 21; 19 (the first unsupported label); 20 (the first run and stop with a gap). */
+uint32_t kiosk_check_room(void);
+void kiosk_check(const uint8_t *tables, size_t tables_length, uint32_t stops, uint32_t run_count, const uint32_t *runs, size_t runs_length,
+                 uint16_t *work, size_t work_length, uint32_t answer[4]);
+
+/* The asks with their rides: answer {0, departure, arrival, rides}, and the run numbers of the rides at the front of list. 2,879 numbers are
+ * always enough for the list. work: at least kiosk_rides_room() numbers, all zero afterwards.
+ * Refuses 9, 10, 11; 8, 17, 5, 6, 7; 21; 12, 13, 14, 15, 16; 18 (rides missing); 17 (the list is too short). */
+uint32_t kiosk_rides_room(void);
+void kiosk_early_rides(const uint8_t *tables, size_t tables_length, uint32_t stops, uint32_t run_count, const uint32_t *runs, size_t runs_length,
+                       uint32_t from, uint32_t to, uint32_t t, uint32_t *list, size_t list_length, uint16_t *work, size_t work_length, uint32_t answer[4]);
+void kiosk_late_rides(const uint8_t *tables, size_t tables_length, uint32_t stops, uint32_t run_count, const uint32_t *runs, size_t runs_length,
+                      uint32_t from, uint32_t to, uint32_t t, uint32_t *list, size_t list_length, uint16_t *work, size_t work_length, uint32_t answer[4]);
+void kiosk_short_rides(const uint8_t *tables, size_t tables_length, uint32_t stops, uint32_t run_count, const uint32_t *runs, size_t runs_length,
+                       uint32_t from, uint32_t to, uint32_t t, uint32_t t2, uint32_t *list, size_t list_length, uint16_t *work, size_t work_length, uint32_t answer[4]);
+
 #ifdef __cplusplus
 }
 #endif

@@ -16,7 +16,8 @@ use Rattle.journeys.specs.Criteria.{Best, Nothing}
 use Rattle.journeys.specs.Tables.{Tables, Sketch}
 use Rattle.tables.specs.declared.TablesRead.{TablesRead}
 use Rattle.tables.specs.declared.TablesRead.the-variants as tables
-use Rattle.tables.specs.File.{tablesOf, judgedTables}
+use Rattle.tables.specs.File.{tablesOf}
+use Rattle.tables.specs.Judged.{judgedTables}
 use Rattle.asks.specs.declared.Wanted.{Wanted}
 use Rattle.asks.specs.declared.Wanted.the-variants as wanted
 use Rattle.asks.specs.declared.Asked.{Asked}

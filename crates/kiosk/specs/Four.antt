@@ -4,6 +4,10 @@ use mathlib.Core.List.{List, [], _∷_}
 use Rattle.kinds.specs.declared.Refusal.{Refusal}
 use Rattle.asks.specs.declared.Answer.{Answer}
 use Rattle.asks.specs.declared.Answer.the-variants as ask
+use Rattle.verdict.specs.declared.Verdict.{Verdict}
+use Rattle.verdict.specs.declared.Verdict.the-variants as verdict
+use Rattle.rides.specs.declared.RidesAnswer.{RidesAnswer}
+use Rattle.rides.specs.declared.RidesAnswer.the-variants as rides
 use Rattle.reader.specs.declared.ReadAnswer.{ReadAnswer}
 use Rattle.reader.specs.declared.ReadAnswer.the-variants as read
 
@@ -19,3 +23,13 @@ fourAsk (ask.No r) = fourNo r
 unfoldable pub fourRead : ReadAnswer → List ℕ
 fourRead (read.Read c) = 0 ∷ c .stops ∷ c .runs ∷ 0 ∷ []
 fourRead (read.No r) = fourNo r
+
+-- [0, 0, 0, 0]
+unfoldable pub fourCheck : Verdict → List ℕ
+fourCheck verdict.Accepted = 0 ∷ 0 ∷ 0 ∷ 0 ∷ []
+fourCheck (verdict.No r) = fourNo r
+
+-- [0, dep, arr, rides]
+unfoldable pub fourRides : RidesAnswer → List ℕ
+fourRides (rides.At j) = 0 ∷ j .dep ∷ j .arr ∷ j .rides ∷ []
+fourRides (rides.No r) = fourNo r

@@ -2,6 +2,9 @@
 // [number, place, stop, 0] on a refusal. include/kiosk.h says the same for C.
 use asks::Answer;
 use reader::ReadAnswer;
+use rides::Listed;
+use rides::RidesAnswer;
+use verdict::Verdict;
 ghost use mathlib.Core.Path.{_≡_};
 ghost use Prim.Native.Nat.{ℕ};
 ghost use lib.ListN.{length};
@@ -10,7 +13,13 @@ ghost use Rattle.asks.specs.declared.Answer.{Answer};
 ghost use Rattle.asks.specs.declared.Wanted.the-variants as wanted;
 ghost use Rattle.asks.specs.Asks.{asked, Answers};
 ghost use Rattle.reader.specs.Text.{readText, answerOf, runsOf, codesOf};
-ghost use Rattle.kiosk.specs.Four.{fourAsk, fourRead};
+ghost use Rattle.loops.specs.Zero.{zeros};
+ghost use Rattle.timetable.specs.Numbers.{serviceOf};
+ghost use Rattle.verdict.specs.declared.Verdict.{Verdict};
+ghost use Rattle.verdict.specs.Verdict.{checkRoom, Checked};
+ghost use Rattle.rides.specs.declared.RidesAnswer.{RidesAnswer};
+ghost use Rattle.rides.specs.Lists.{ridesRoom, ridesAsked, Lists};
+ghost use Rattle.kiosk.specs.Four.{fourAsk, fourRead, fourCheck, fourRides};
 
 fn four_read(a: ReadAnswer) -> [u32; 4]
     ensures { λ r. ⌜ r ≡ fourRead a ⌝ }
@@ -78,4 +87,125 @@ pub extern "C" fn kiosk_short(
 {
     let a = asks::short(tables, from, to, t, t2);
     *answer = four_ask(a);
+}
+
+fn four_check(a: Verdict) -> [u32; 4]
+    ensures { λ r. ⌜ r ≡ fourCheck a ⌝ }
+{
+    match a {
+        Verdict::Accepted => [0, 0, 0, 0],
+        Verdict::No(r) => [r.number, r.place, r.stop, 0],
+    }
+}
+
+fn four_rides(a: RidesAnswer) -> [u32; 4]
+    ensures { λ r. ⌜ r ≡ fourRides a ⌝ }
+{
+    match a {
+        RidesAnswer::At(j) => [0, j.dep as u32, j.arr as u32, j.rides],
+        RidesAnswer::No(r) => [r.number, r.place, r.stop, 0],
+    }
+}
+
+// How many numbers of two bytes the check needs as working room.
+#[no_mangle]
+pub extern "C" fn kiosk_check_room() -> u32
+    ensures { λ r. ⌜ r ≡ checkRoom ⌝ }
+{
+    Verdict::ROOM as u32
+}
+
+// The check of tables from anyone against a timetable's numbers: [0, 0, 0, 0] where they are accepted.
+#[no_mangle]
+pub extern "C" fn kiosk_check(
+    tables: &[u8],
+    stops: u32,
+    run_count: u32,
+    runs: &[u32],
+    work: &mut [u16],
+    answer: &mut [u32; 4],
+)
+    ensures { λ _. ⌜ ((x : Verdict) × Checked (now (tables .entry)) stops «run_count» (now (runs .entry)) (length (now (work .entry))) x × (now (answer .exit) ≡ fourCheck x)) ⌝ }
+    ensures { λ _. ⌜ now (work .exit) ≡ zeros (now (work .entry)) ⌝ }
+{
+    let a = verdict::check(tables, stops, run_count, runs, work);
+    *answer = four_check(a);
+}
+
+// How many numbers of two bytes an ask with rides needs as working room.
+#[no_mangle]
+pub extern "C" fn kiosk_rides_room() -> u32
+    ensures { λ r. ⌜ r ≡ ridesRoom ⌝ }
+{
+    Listed::ROOM as u32
+}
+
+// early with its rides: [0, departure, arrival, rides], and the run numbers in the list.
+#[no_mangle]
+pub extern "C" fn kiosk_early_rides(
+    tables: &[u8],
+    stops: u32,
+    run_count: u32,
+    runs: &[u32],
+    from: u32,
+    to: u32,
+    t: u32,
+    list: &mut [u32],
+    work: &mut [u16],
+    answer: &mut [u32; 4],
+)
+    ensures { λ _. ⌜ ((x : RidesAnswer) × Lists (serviceOf stops «run_count» (now (runs .entry))) (tablesOf (now (tables .entry)))
+        (ridesAsked (now (tables .entry)) stops «run_count» (now (runs .entry)) (length (now (work .entry))) from to (wanted.Early t))
+        (now (list .entry)) (now (list .exit)) x × (now (answer .exit) ≡ fourRides x)) ⌝ }
+    ensures { λ _. ⌜ now (work .exit) ≡ zeros (now (work .entry)) ⌝ }
+{
+    let a = rides::early(tables, stops, run_count, runs, from, to, t, list, work);
+    *answer = four_rides(a);
+}
+
+// late with its rides: [0, departure, arrival, rides], and the run numbers in the list.
+#[no_mangle]
+pub extern "C" fn kiosk_late_rides(
+    tables: &[u8],
+    stops: u32,
+    run_count: u32,
+    runs: &[u32],
+    from: u32,
+    to: u32,
+    t: u32,
+    list: &mut [u32],
+    work: &mut [u16],
+    answer: &mut [u32; 4],
+)
+    ensures { λ _. ⌜ ((x : RidesAnswer) × Lists (serviceOf stops «run_count» (now (runs .entry))) (tablesOf (now (tables .entry)))
+        (ridesAsked (now (tables .entry)) stops «run_count» (now (runs .entry)) (length (now (work .entry))) from to (wanted.Late t))
+        (now (list .entry)) (now (list .exit)) x × (now (answer .exit) ≡ fourRides x)) ⌝ }
+    ensures { λ _. ⌜ now (work .exit) ≡ zeros (now (work .entry)) ⌝ }
+{
+    let a = rides::late(tables, stops, run_count, runs, from, to, t, list, work);
+    *answer = four_rides(a);
+}
+
+// short with its rides: [0, departure, arrival, rides], and the run numbers in the list.
+#[no_mangle]
+pub extern "C" fn kiosk_short_rides(
+    tables: &[u8],
+    stops: u32,
+    run_count: u32,
+    runs: &[u32],
+    from: u32,
+    to: u32,
+    t: u32,
+    t2: u32,
+    list: &mut [u32],
+    work: &mut [u16],
+    answer: &mut [u32; 4],
+)
+    ensures { λ _. ⌜ ((x : RidesAnswer) × Lists (serviceOf stops «run_count» (now (runs .entry))) (tablesOf (now (tables .entry)))
+        (ridesAsked (now (tables .entry)) stops «run_count» (now (runs .entry)) (length (now (work .entry))) from to (wanted.Short t t2))
+        (now (list .entry)) (now (list .exit)) x × (now (answer .exit) ≡ fourRides x)) ⌝ }
+    ensures { λ _. ⌜ now (work .exit) ≡ zeros (now (work .entry)) ⌝ }
+{
+    let a = rides::short(tables, stops, run_count, runs, from, to, t, t2, list, work);
+    *answer = four_rides(a);
 }

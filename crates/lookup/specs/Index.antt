@@ -1,6 +1,6 @@
 -- An index of the codes, so that a code is compared with few others: stops are strung together by a number that equal codes share.
 -- No meaning rests on it: what is looked up is said in Lookup.antt.
-use Prim.Native.Nat.{ℕ, zero, suc, _+_, _*_, _-_, _%_, _≤_, _<_, min}
+use Prim.Native.Nat.{ℕ, zero, suc, _+_, _*_, _%_, _≤_, _<_}
 use mathlib.Core.Path.{_≡_}
 use mathlib.Core.List.{List}
 use mathlib.Core.Bool.{Bool, true, false, cond}
@@ -11,12 +11,13 @@ use Rattle.lookup.specs.Lookup.{startOf, lengthOf}
 use Rattle.lookup.specs.LookupLaws.{Placed}
 
 abbrev pub buckets : ℕ
-buckets = 1024
+buckets = 1021
 
--- k bytes from a on, each weighed by its place
+-- k bytes from a on, each weighed by the square of its place, so that codes that differ in few places, or in the order of some bytes, seldom
+-- share a sum. (With weights that rise evenly they often do. The number of buckets is a prime, since many weights are even.)
 unfoldable pub weighed : List ℕ → ℕ → ℕ → ℕ
 weighed t a zero = 0
-weighed t a (suc k) = weighed t a k + (k + 31) * getD t (a + k) 0
+weighed t a (suc k) = weighed t a k + (k + 5) * (k + 5) * getD t (a + k) 0
 
 -- as many bytes as a code has at most
 unfoldable pub weighedBytes : ℕ → ℕ

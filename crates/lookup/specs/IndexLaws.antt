@@ -85,20 +85,24 @@ pub record Weighing (t : List ℕ) (a n m sum k : ℕ) : Type 0 where
   pub bytes : m ≡ weighedBytes n
   pub low : k ≤ m
   pub is : sum ≡ weighed t a k
-  pub small : sum ≤ 24225 * k
+  pub small : sum ≤ 1179120 * k
 
 pub weighing-none : (t : List ℕ) (a n m : ℕ) → m ≡ weighedBytes n → Weighing t a n m 0 0
 unfolding weighed
 weighing-none t a n m e = record { bytes = e; low = omega arith; is = refl; small = omega arith }
 
-pub byte-weight : (k b : ℕ) → k < mostCode → b < 256 → (k + 31) * b ≤ 24225
-byte-weight k b h l = mul-le-mul {n₁ = k + 31} {m₁ = b} {n₂ = 95} {m₂ = 255} (omega arith) (omega arith)
+pub place-weight : (k : ℕ) → k < mostCode → (k + 5) * (k + 5) ≤ 4624
+place-weight k h = mul-le-mul {n₁ = k + 5} {m₁ = k + 5} {n₂ = 68} {m₂ = 68} (omega arith) (omega arith)
+
+pub byte-weight : (k b : ℕ) → k < mostCode → b < 256 → (k + 5) * (k + 5) * b ≤ 1179120
+byte-weight k b h l =
+    mul-le-mul {n₁ = (k + 5) * (k + 5)} {m₁ = b} {n₂ = 4624} {m₂ = 255} (place-weight k h) (omega arith)
 
 module _ {t : List ℕ} {a n m sum k : ℕ} (w : Weighing t a n m sum k) where
   pub weighing-few : (m ≤ n) × (m ≤ mostCode)
   weighing-few = omega (arith, w .bytes, weighed-few n)
 
-  pub weighing-more : k < m → getD t (a + k) 0 < 256 → Weighing t a n m (sum + (k + 31) * getD t (a + k) 0) (k + 1)
+  pub weighing-more : k < m → getD t (a + k) 0 < 256 → Weighing t a n m (sum + (k + 5) * (k + 5) * getD t (a + k) 0) (k + 1)
   unfolding weighed
   weighing-more h l =
       record {

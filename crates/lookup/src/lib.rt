@@ -22,7 +22,7 @@ pub fn has_code(s: &[u8], codes: &[u32], j: usize, t: &[u8], from: usize, n: usi
 }
 
 // How many buckets the index has. Its heads are as many numbers, its nexts one number a stop.
-pub const BUCKETS: usize = 1024;
+pub const BUCKETS: usize = 1021;
 
 // The bytes weighed, as a small number: equal codes have the same one.
 fn bucket(t: &[u8], from: usize, n: usize) -> usize
@@ -33,7 +33,8 @@ fn bucket(t: &[u8], from: usize, n: usize) -> usize
     let mut sum: u32 = 0;
     let mut k = 0;
     while k < m {
-        sum += (k as u32 + 31) * (t[from + k] as u32);
+        let place = k as u32 + 5;
+        sum += place * place * (t[from + k] as u32);
         k += 1;
     }
     sum as usize % BUCKETS

@@ -20,3 +20,6 @@ pub mod Tells
 pub mod TellsLaws
 pub mod Fails
 pub mod FailsLaws
+pub mod Compares
+pub mod Written
+pub mod WrittenLaws

@@ -20,3 +20,9 @@ tells-one false false p q = refl
 
 pub tells-as : {P Q : Type 0} {r : Bool} → P ↔ Q → Tells P r → Tells Q r
 tells-as f t = record { holds = λ e. f .0 (t .holds e); fails = λ e q. t .fails e (f .1 q) }
+
+pub told-true : {P : Type 0} {r : Bool} → Tells P r → r ≡ true → P
+told-true t e = t .holds e
+
+pub told-false : {P : Type 0} {r : Bool} → Tells P r → r ≡ false → ¬ P
+told-false t e = t .fails e

@@ -1,21 +1,21 @@
 -- What the look-ups say of the tables.
 use Prim.Native.Nat.{ℕ, _+_, _*_, _≤_, _<_}
-use mathlib.Core.Path.{_≡_, refl, sym, ap, subst, subst₂, _∙_}
+use mathlib.Core.Path.{_≡_, sym, ap, subst, _∙_}
 use mathlib.Core.List.{List}
-use mathlib.Core.Bool.{Bool, true, false, cond}
+use mathlib.Core.Bool.{Bool, true, false}
 use mathlib.Core.Option.{Option}
 use native.Mathlib.Omega.{arith}
 use native.Mathlib.Decide.{decLt}
 use lib.ListN.{getD}
-use lib.Dec.{ltb, eqb}
+use lib.Dec.{eqb}
 use borrow.Author.Tests.{lt-ltb, le-ltb, eq-eqb, eqb-true, eqb-false}
 use Rattle.loops.specs.Chain.{stays}
 use Rattle.loops.specs.First.{FirstAt}
 use Rattle.kinds.specs.declared.Label.{Label}
-use Rattle.journeys.specs.Tables.{Side, outs, ins, Tables, LabelAt, of-out, of-in}
+use Rattle.journeys.specs.Tables.{Side, outs, ins, LabelAt, of-out, of-in}
 use Rattle.journeys.specs.SketchLaws.{entry-at}
-use Rattle.tables.specs.File.{tablesOf, labelsOf, labelAt, startOf, endOf, setOf}
-use Rattle.tables.specs.FileLaws.{start-more, start-rises}
+use Rattle.tables.specs.File.{tablesOf, labelAt, startOf, endOf, setOf}
+use Rattle.tables.specs.FileLaws.{start-more}
 use Rattle.tables.specs.TablesLaws.{tables-stops, tables-start, tables-end, tables-within, good-tables}
 use Rattle.support.specs.declared.Stretch.{Stretch}
 use Rattle.support.specs.declared.Moment.{Moment}

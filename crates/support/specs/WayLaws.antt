@@ -1,10 +1,10 @@
 -- Laws of ways: the label that a set's number and a label read say, and the runs that it may have.
-use Prim.Native.Nat.{ℕ, _+_, _*_, _/_, _%_, _≤_, _<_}
-use mathlib.Core.Path.{_≡_, refl, sym, ap, subst, _∙_}
+use Prim.Native.Nat.{ℕ, _+_, _*_, _%_, _≤_, _<_}
+use mathlib.Core.Path.{_≡_, sym, ap, _∙_}
 use mathlib.Core.List.{List}
-use mathlib.Core.Logic.{_⊎_, inl, inr, _↔_}
+use mathlib.Core.Logic.{_⊎_, inl, inr}
 use mathlib.Core.Option.{Option}
-use mathlib.Core.Bool.{Bool, true, false}
+use mathlib.Core.Bool.{Bool}
 use native.Mathlib.Omega.{arith}
 use native.Mathlib.Decide.{decLt, ℕ-discrete}
 use borrow.Author.Tests.{eq-eqb, ne-eqb}
@@ -19,11 +19,12 @@ use Rattle.journeys.specs.Service.{Service, RideAt}
 use Rattle.journeys.specs.Tables.{Side, outs, ins, Tables, Entry, LabelAt, of-out, of-in}
 use Rattle.journeys.specs.Check.{Halves, SupportedAt}
 use Rattle.journeys.specs.SketchLaws.{entry-at}
-use Rattle.tables.specs.File.{startOf, endOf, setOf, ownerOf, labelsOf, labelAt, pivotOf, tablesOf}
+use Rattle.tables.specs.File.{startOf, endOf, setOf, ownerOf, labelAt, pivotOf, tablesOf}
 use Rattle.tables.specs.FileLaws.{start-more, start-rises}
 use Rattle.tables.specs.Good.{GoodFile}
 use Rattle.tables.specs.TablesLaws.{tables-stops, tables-start, tables-end, entry-label}
 use Rattle.timetable.specs.Numbers.{runAt, serviceOf}
+use Rattle.timetable.specs.NumbersLaws.{service-slots, service-ride, service-ride-at}
 use Rattle.support.specs.declared.Way.{Way}
 use Rattle.support.specs.Ways.{wayOf, WayGood, IsRun, RunFor, WaySupported}
 
@@ -31,17 +32,31 @@ use Rattle.support.specs.Ways.{wayOf, WayGood, IsRun, RunFor, WaySupport
 
 module _ (stops count : ℕ) (list : List ℕ) (w : Way) where
   pub run-rides : {i : ℕ} {l : Run} → i < count → l ≡ runAt list i → IsRun l w → RunFor (serviceOf stops count list) w
-  unfolding serviceOf
   run-rides {i} {l} lt e r =
-      (i, record { below = lt; forced = refl; goes = ap (λ x. x .from) (sym e) ∙ r .goes; ends = ap (λ x. x .to) (sym e) ∙ r .ends; leaves = ap (λ x. x .dep) (sym e) ∙ r .leaves; arrives = ap (λ x. x .arr) (sym e) ∙ r .arrives })
+      let z = service-ride-at stops count list i lt in (
+        i,
+        record {
+          below = z .below;
+          forced = z .forced;
+          goes = z .goes ∙ ap (λ x. x .from) (sym e) ∙ r .goes;
+          ends = z .ends ∙ ap (λ x. x .to) (sym e) ∙ r .ends;
+          leaves = z .leaves ∙ ap (λ x. x .dep) (sym e) ∙ r .leaves;
+          arrives = z .arrives ∙ ap (λ x. x .arr) (sym e) ∙ r .arrives;
+        },
+      )
 
   pub ride-run : {i : ℕ} {l : Run} → l ≡ runAt list i → RideAt (serviceOf stops count list) i (w .from) (w .to) (w .dep) (w .arr) → IsRun l w
-  unfolding serviceOf
-  ride-run e r = record { goes = ap (λ x. x .from) e ∙ r .goes; ends = ap (λ x. x .to) e ∙ r .ends; leaves = ap (λ x. x .dep) e ∙ r .leaves; arrives = ap (λ x. x .arr) e ∙ r .arrives }
+  ride-run {i} e r =
+      let z = sym (service-ride stops count list i) in
+      record {
+        goes = ap (λ x. x .from) e ∙ ap (λ x. x .from) z ∙ r .goes;
+        ends = ap (λ x. x .to) e ∙ ap (λ x. x .to) z ∙ r .ends;
+        leaves = ap (λ x. x .dep) e ∙ ap (λ x. x .dep) z ∙ r .leaves;
+        arrives = ap (λ x. x .arr) e ∙ ap (λ x. x .arr) z ∙ r .arrives;
+      }
 
   pub no-run : {k : ℕ} → count ≤ k → Passed (λ i. RideAt (serviceOf stops count list) i (w .from) (w .to) (w .dep) (w .arr)) 0 k → ¬ (RunFor (serviceOf stops count list) w)
-  unfolding serviceOf
-  no-run ge p (i, r) = p .none i (omega arith) (omega (arith, r .below)) r
+  no-run ge p (i, r) = p .none i (omega arith) (omega (arith, r .below, service-slots stops count list)) r
 
 -- ---- the label at a number of a set
 

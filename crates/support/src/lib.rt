@@ -2,7 +2,7 @@
 use kinds::Label;
 use kinds::Run;
 ghost use mathlib.Core.Path.{_≡_};
-ghost use Prim.Native.Nat.{ℕ, _+_, _*_, _≤_, _<_};
+ghost use Prim.Native.Nat.{_+_, _*_, _≤_, _<_};
 ghost use lib.ListN.{length, getD};
 ghost use Rattle.loops.specs.First.{FirstAt};
 ghost use Rattle.loops.specs.Fails.{FailsAt};
@@ -17,12 +17,12 @@ ghost use Rattle.support.specs.Search.{stretchOf, Wanted, wantedB};
 ghost use Rattle.support.specs.Ways.{wayOf, WayGood, IsRun, RunFor, WaySupported};
 
 // A label by its ends, its minutes and its pivot.
-pub struct Way {
-    pub from: u16,
-    pub to: u16,
-    pub dep: u16,
-    pub arr: u16,
-    pub pivot: u16,
+struct Way {
+    from: u16,
+    to: u16,
+    dep: u16,
+    arr: u16,
+    pivot: u16,
 }
 
 // Some labels of one set: those with this hub, from `start` up to, not including, `end`.

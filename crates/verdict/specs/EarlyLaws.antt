@@ -1,8 +1,7 @@
 -- Early arrivals by the hubs are the tables' early arrivals, and tell whether there is a gap.
 use Prim.Native.Nat.{ℕ, _≤_, _<_}
-use mathlib.Core.Path.{_≡_, refl, sym, subst, _∙_}
+use mathlib.Core.Path.{_≡_, refl, subst}
 use mathlib.Core.Logic.{_⊎_, inl, inr, _≢_, _↔_}
-use mathlib.Core.Option.{Option}
 use native.Mathlib.Omega.{arith}
 use native.Mathlib.Nat.{le-refl}
 use native.Mathlib.Decide.{ℕ-discrete, decLt}
@@ -11,8 +10,8 @@ use Rattle.journeys.specs.Tables.{Tables, outs, ins, Entry, of-out, of-in, Good
 use Rattle.journeys.specs.Check.{NoGap}
 use Rattle.journeys.specs.PairLaws.{Within, wider}
 use Rattle.journeys.specs.SketchLaws.{sketch-last}
-use Rattle.journeys.specs.AcceptedLaws.{NoGapWithin, no-gap-iff}
-use Rattle.verdict.specs.Early.{unreached, OutBy, Reached, InBy, Arrival, Early}
+use Rattle.journeys.specs.AcceptedLaws.{no-gap-iff}
+use Rattle.verdict.specs.Early.{unreached, Reached, InBy, Arrival, Early}
 
 module _ {T : Tables} (G : GoodTables T) {u v d e : ℕ} {R : ℕ → ℕ} (other : v ≢ u) (stop : v < T .stops)
     (r : Reached T u d (T .end outs u) R) (a : Arrival T R v (T .end ins v) e) where

@@ -1,8 +1,8 @@
 -- What the comparisons tell, and the turns of the search for gaps.
-use Prim.Native.Nat.{ℕ, _+_, _≤_, _<_}
-use mathlib.Core.Path.{_≡_, refl, sym, ap, subst, _∙_}
+use Prim.Native.Nat.{ℕ, _≤_, _<_}
+use mathlib.Core.Path.{_≡_, sym, ap, subst, _∙_}
 use mathlib.Core.List.{List}
-use mathlib.Core.Bool.{Bool, true, false}
+use mathlib.Core.Bool.{Bool}
 use mathlib.Core.Logic.{_≢_, _↔_}
 use native.Mathlib.Omega.{arith}
 use lib.ListN.{getD}
@@ -12,13 +12,12 @@ use Rattle.loops.specs.Fails.{HoldsTo}
 use Rattle.loops.specs.Tells.{Tells}
 use Rattle.loops.specs.TellsLaws.{tells-as}
 use Rattle.kinds.specs.declared.Run.{Run}
-use Rattle.journeys.specs.Service.{Service, RideAt}
 use Rattle.journeys.specs.Tables.{Tables, ins}
 use Rattle.journeys.specs.Check.{NoGap, NoGapAt, NoGaps}
 use Rattle.tables.specs.File.{tablesOf}
 use Rattle.tables.specs.TablesLaws.{good-tables}
 use Rattle.timetable.specs.Numbers.{runAt, serviceOf, RunGood, GoodNumbers}
-use Rattle.timetable.specs.NumbersLaws.{service-ride-at}
+use Rattle.timetable.specs.NumbersLaws.{service-slots, service-ride, service-ride-at}
 use Rattle.support.specs.SearchLaws.{ready-stops}
 use Rattle.verdict.specs.Early.{Arrival, Early}
 use Rattle.verdict.specs.EarlyLaws.{early-arrival, gap-here, gap-on}
@@ -53,11 +52,12 @@ module _ {b : List ℕ} {n : ℕ} {s : List ℕ} {r : Run} (near far : List ℕ)
 module _ (stops count : ℕ) (list : List ℕ) (T : Tables) where
   -- run i, as it was read
   pub at-run : {i v : ℕ} {r : Run} {t : Bool} → i < count → r ≡ runAt list i → Tells (NoGapOf T r v) t → Tells (NoGapAt (serviceOf stops count list) T i v) t
-  unfolding serviceOf
   at-run {i} {v} {r} {t} lt e q = tells-as (to, back) (subst (λ x. Tells (NoGapOf T x v) t) e q)
     where
       to : NoGapOf T (runAt list i) v → NoGapAt (serviceOf stops count list) T i v
-      to f u x d a z = at u x d a (z .goes) (z .ends) (z .leaves) (z .arrives)
+      to f u x d a z =
+          let q = sym (service-ride stops count list i) in
+          at u x d a (ap (λ y. y .from) q ∙ z .goes) (ap (λ y. y .to) q ∙ z .ends) (ap (λ y. y .dep) q ∙ z .leaves) (ap (λ y. y .arr) q ∙ z .arrives)
         where
           at : (u x d a : ℕ) → runAt list i .from ≡ u → runAt list i .to ≡ x → runAt list i .dep ≡ d → runAt list i .arr ≡ a → v ≢ u → NoGap T u x d a v
           at u x d a e₁ e₂ e₃ e₄ = rw (← e₁, ← e₂, ← e₃, ← e₄) f
@@ -77,8 +77,7 @@ module _ (stops count : ℕ) (list : List ℕ) (T : Tables) where
       }
 
   pub no-gaps : {i n : ℕ} → T .stops ≡ n → count ≤ i → HoldsTo (λ j. HoldsTo (NoGapAt (serviceOf stops count list) T j) 0 n) 0 i → NoGaps (serviceOf stops count list) T
-  unfolding serviceOf
-  no-gaps q ge rows j w l u x d a r m = rows .each j (omega arith) (omega (arith, r .below)) .each w (omega arith) (omega arith) u x d a r m
+  no-gaps q ge rows j w l u x d a r m = rows .each j (omega arith) (omega (arith, r .below, service-slots stops count list)) .each w (omega arith) (omega arith) u x d a r m
 
 -- a run of good numbers, as it was read
 pub read-good : {n count : ℕ} {list : List ℕ} → GoodNumbers n count list → {i : ℕ} {r : Run} → i < count → r ≡ runAt list i → RunGood n r

@@ -1,6 +1,6 @@
 -- The turns of the loops over out-labels and in-labels.
 use Prim.Native.Nat.{ℕ, _+_, _≤_, _<_}
-use mathlib.Core.Path.{_≡_, refl, sym, ap, subst, _∙_}
+use mathlib.Core.Path.{_≡_, refl, sym, subst, _∙_}
 use mathlib.Core.List.{List}
 use mathlib.Core.Bool.{Bool, true, false, cond}
 use mathlib.Core.Option.{Option}
@@ -12,14 +12,14 @@ use lib.ListN.{length, getD, set, replicate, length-set, length-replicate, getD-
 use lib.Seq.{getD-set-same, getD-set-other}
 use lib.Dec.{ltb, leb}
 use borrow.Author.Tests.{ltb-true, ltb-false, leb-true, leb-false}
-use Rattle.kinds.specs.Limits.{mostStops, lastMinute}
+use Rattle.kinds.specs.Limits.{mostStops}
 use Rattle.kinds.specs.declared.Label.{Label}
 use Rattle.journeys.specs.Tables.{Side, Tables, outs, ins, Entry, GoodTables}
 use Rattle.journeys.specs.SketchLaws.{entry-at, one-entry}
 use Rattle.tables.specs.File.{tablesOf, labelAt}
 use Rattle.tables.specs.Good.{GoodFile}
 use Rattle.tables.specs.TablesLaws.{Says, says, tables-stops, good-tables}
-use Rattle.verdict.specs.Early.{unreached, OutBy, Reached, InBy, Arrival}
+use Rattle.verdict.specs.Early.{unreached, OutBy, Reached, Arrival}
 use Rattle.verdict.specs.Steps.{relaxed, soonerOf, fresh}
 
 -- ---- a label of a set, as it was read

@@ -12,7 +12,8 @@ use Rattle.journeys.specs.Tables.{Tables}
 use Rattle.journeys.specs.Check as the
 use Rattle.tables.specs.declared.TablesRead.{TablesRead}
 use Rattle.tables.specs.declared.TablesRead.the-variants as tables
-use Rattle.tables.specs.File.{judgedTables, tablesOf}
+use Rattle.tables.specs.File.{tablesOf}
+use Rattle.tables.specs.Judged.{judgedTables}
 use Rattle.timetable.specs.declared.Judged.{Judged}
 use Rattle.timetable.specs.declared.Judged.the-variants as numbers
 use Rattle.timetable.specs.Numbers.{judgedOf, serviceOf}

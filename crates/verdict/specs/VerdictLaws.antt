@@ -4,7 +4,6 @@ use mathlib.Core.Path.{_≡_, refl, sym, ap, subst, subst₂, _∙_}
 use mathlib.Core.Logic.{_↔_}
 use mathlib.Core.List.{List}
 use mathlib.Core.Option.{Option}
-use mathlib.Core.Bool.{true}
 use native.Mathlib.Omega.{arith}
 use native.Mathlib.Decide.{decLt}
 use lib.ListN.{length, getD}
@@ -21,7 +20,8 @@ use Rattle.journeys.specs.Check as the
 use Rattle.journeys.specs.Check.{SupportedAt, AllSupported, UnsupportedFirst, GapFirst}
 use Rattle.tables.specs.declared.TablesRead.{TablesRead}
 use Rattle.tables.specs.declared.TablesRead.the-variants as tables
-use Rattle.tables.specs.File.{judgedTables, tablesOf, startOf, labelsOf, stopsOf}
+use Rattle.tables.specs.File.{tablesOf, startOf, labelsOf}
+use Rattle.tables.specs.Judged.{judgedTables}
 use Rattle.tables.specs.Good.{GoodFile}
 use Rattle.tables.specs.GoodLaws as file
 use Rattle.tables.specs.TablesLaws.{tables-stops, tables-within}

@@ -6,19 +6,50 @@ use kinds::Stop;
 use tables::TablesRead;
 use timetable::Judged;
 ghost use mathlib.Core.Path.{_≡_};
-ghost use Prim.Native.Nat.{ℕ, _+_, _*_, _≤_, _<_};
+ghost use Prim.Native.Nat.{_+_, _*_, _<_};
 ghost use lib.ListN.{length, getD};
 ghost use Rattle.loops.specs.Zero.{zeros};
 ghost use Rattle.loops.specs.Tells.{Tells};
-ghost use Rattle.kinds.specs.Limits.{mostStops, lastMinute};
+ghost use Rattle.kinds.specs.Limits.{mostStops};
 ghost use Rattle.journeys.specs.Tables.{outs, ins};
-ghost use Rattle.tables.specs.File.{tablesOf, judgedTables};
+ghost use Rattle.tables.specs.File.{tablesOf};
+ghost use Rattle.tables.specs.Judged.{judgedTables};
 ghost use Rattle.timetable.specs.Numbers.{serviceOf, judgedOf, GoodNumbers};
 ghost use Rattle.support.specs.Ready.{Ready};
 ghost use Rattle.verdict.specs.Early.{Reached, Arrival};
 ghost use Rattle.verdict.specs.Steps.{relaxed, soonerOf};
 ghost use Rattle.verdict.specs.Gaps.{NoGapOf, Compared, GapIn};
 ghost use Rattle.verdict.specs.Verdict.{checkRoom, judgedBoth, Outcome, Checked};
+
+// What the check answers.
+pub enum Verdict {
+    Accepted,
+    No(Refusal),
+}
+
+impl Verdict {
+    // The working room of a check, in numbers of two bytes: the starts of all sets, and the number of labels.
+    pub const ROOM: usize = 2 * Stop::MOST + 1;
+
+    pub fn room() -> usize
+        ensures { λ r. do ⌜ r ≡ (← ⟦Verdict::ROOM⟧ .entry) ⌝ }
+        ensures { λ r. ⌜ r ≡ checkRoom ⌝ }
+    {
+        Verdict::ROOM
+    }
+}
+
+// The first gap: its run and its stop.
+enum Gap {
+    At(u32, u32),
+    Nothing,
+}
+
+// When one can be at a stop, by two arrays of the hubs.
+struct Both {
+    near: u16,
+    far: u16,
+}
 
 // A minute past all others: not reached.
 const UNREACHED: u16 = 65535;
@@ -55,12 +86,6 @@ fn reach(tables: &[u8], n: u16, starts: &[u16], u: u16, d: u16) -> [u16; Stop::M
         k += 1;
     }
     reached
-}
-
-// When one can be at a stop, by two arrays of the hubs.
-struct Both {
-    near: u16,
-    far: u16,
 }
 
 // One in-label more, whose hub is reached at m: it counts where it leaves then or later, and the sooner arrival stays.
@@ -130,12 +155,6 @@ fn no_gap(
     both.near <= both.far
 }
 
-// The first gap: its run and its stop.
-enum Gap {
-    At(u32, u32),
-    Nothing,
-}
-
 // The runs by number and, within a run, the stops by number; the first gap ends the search.
 fn first_gap(tables: &[u8], n: u16, starts: &[u16], runs: &[u32], count: usize) -> Gap
     requires { ⌜ Ready (now tables) n (now starts) ⌝ }
@@ -161,24 +180,6 @@ fn first_gap(tables: &[u8], n: u16, starts: &[u16], runs: &[u32], count: usize) 
         return Gap::At(i as u32, v as u32);
     }
     Gap::Nothing
-}
-
-// What the check answers.
-pub enum Verdict {
-    Accepted,
-    No(Refusal),
-}
-
-impl Verdict {
-    // The working room of a check, in numbers of two bytes: the starts of all sets, and the number of labels.
-    pub const ROOM: usize = 2 * Stop::MOST + 1;
-
-    pub fn room() -> usize
-        ensures { λ r. do ⌜ r ≡ (← ⟦Verdict::ROOM⟧ .entry) ⌝ }
-        ensures { λ r. ⌜ r ≡ checkRoom ⌝ }
-    {
-        Verdict::ROOM
-    }
 }
 
 // 9, 10 and 11, then the timetable's, then 21; or the stop count.

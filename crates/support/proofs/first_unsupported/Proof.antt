@@ -1,11 +1,11 @@
 use borrow.Author.Needs.{needs}
-use Prim.Native.Nat.{ℕ, _+_, _*_, _≤_, _-_}
+use Prim.Native.Nat.{ℕ, _*_, _≤_, _-_}
 use mathlib.Core.Path.{_≡_, ap, sym, subst, _∙_}
 use native.Mathlib.Omega.{arith}
-use Rattle.loops.specs.Fails.{HoldsTo, FailsAt}
+use Rattle.loops.specs.Fails.{HoldsTo}
 use Rattle.loops.specs.FailsLaws.{holds-start, holds-on, fails-on, fails-none, fails-end}
 use Rattle.journeys.specs.Check.{SupportedAt}
-use Rattle.tables.specs.File.{tablesOf, startOf, endOf, labelsOf}
+use Rattle.tables.specs.File.{tablesOf, startOf}
 use Rattle.tables.specs.FileLaws.{start-none, start-more, set-within}
 use Rattle.timetable.specs.Numbers.{serviceOf}
 use Rattle.support.specs.SearchLaws.{ready-start, ready-end}

@@ -1,5 +1,5 @@
 use borrow.Author.Needs.{needs}
-use Prim.Native.Nat.{ℕ, _≤_, _-_}
+use Prim.Native.Nat.{_≤_, _-_}
 use Rattle.loops.specs.First.{Passed}
 use Rattle.loops.specs.FirstLaws.{passed-none, passed-more}
 use Rattle.loops.specs.TellsLaws.{tells-yes, tells-no}

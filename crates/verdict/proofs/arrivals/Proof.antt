@@ -1,15 +1,14 @@
 use borrow.Author.Needs.{needs}
-use Prim.Native.Nat.{ℕ, _+_, _*_, _≤_, _<_, _-_}
-use mathlib.Core.Path.{_≡_, refl, sym, ap, subst, _∙_}
+use Prim.Native.Nat.{ℕ, _+_, _≤_, _<_, _-_}
+use mathlib.Core.Path.{_≡_, refl, sym, subst, _∙_}
 use mathlib.Core.List.{List}
 use native.Mathlib.Omega.{arith}
-use lib.ListN.{length, getD}
-use Rattle.journeys.specs.Tables.{outs, ins}
+use lib.ListN.{getD}
+use Rattle.journeys.specs.Tables.{ins}
 use Rattle.tables.specs.File.{tablesOf}
 use Rattle.tables.specs.TablesLaws.{tables-within}
 use Rattle.support.specs.SearchLaws.{ready-stops, set-start, set-end, set-rises}
 use Rattle.verdict.specs.Early.{Arrival}
-use Rattle.verdict.specs.Steps.{soonerOf}
 use Rattle.verdict.specs.StepLaws.{read-says, read-hub, arrival-none, arrival-more}
 use Rattle.verdict.proofs.arrivals.Statement.{statement}
 use Rattle.verdict.proofs.arrivals.Tie as tie

@@ -1,4 +1,4 @@
-use mathlib.Core.Path.{refl, sym, ap, subst, _∙_}
+use mathlib.Core.Path.{refl, ap, subst}
 use native.Mathlib.Omega.{arith}
 use Rattle.tables.specs.File.{tablesOf}
 use Rattle.timetable.specs.Numbers.{serviceOf}

@@ -1,6 +1,5 @@
 use Rattle.loops.specs.TellsLaws.{tells-yes}
 use Rattle.verdict.specs.GapLaws.{tells-here, tells-on}
-use borrow.Author.Needs.{needs}
 use Rattle.verdict.proofs.no_gap.Statement.{statement}
 use Rattle.verdict.proofs.no_gap.Tie as tie
 use Rattle.verdict.proofs.no_gap.Reads as reads

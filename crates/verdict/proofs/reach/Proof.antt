@@ -1,16 +1,16 @@
 use borrow.Author.Needs.{needs}
-use Prim.Native.Nat.{ℕ, _+_, _*_, _≤_, _<_, _-_}
+use Prim.Native.Nat.{ℕ, _+_, _≤_, _-_}
 use mathlib.Core.Path.{_≡_, sym, ap, subst, _∙_}
 use mathlib.Core.List.{List}
 use native.Mathlib.Omega.{arith}
 use lib.ListN.{length, getD}
 use Rattle.kinds.specs.Limits.{mostStops}
-use Rattle.journeys.specs.Tables.{outs, ins}
+use Rattle.journeys.specs.Tables.{outs}
 use Rattle.tables.specs.File.{tablesOf}
-use Rattle.tables.specs.TablesLaws.{Says, says, tables-within, good-tables, entry-label}
+use Rattle.tables.specs.TablesLaws.{tables-within, good-tables}
 use Rattle.support.specs.SearchLaws.{ready-stops, set-start, set-end, set-rises}
 use Rattle.verdict.specs.Early.{Reached}
-use Rattle.verdict.specs.Steps.{fresh, relaxed}
+use Rattle.verdict.specs.Steps.{fresh}
 use Rattle.verdict.specs.StepLaws.{read-says, read-hub, length-fresh, length-relaxed, reached-none, reached-more}
 use Rattle.verdict.proofs.reach.Statement.{statement}
 use Rattle.verdict.proofs.reach.Tie as tie

@@ -1,4 +1,3 @@
-use borrow.Author.Needs.{needs}
 use borrow.Author.Tests.{lt-ltb, le-ltb, le-leb, lt-leb}
 use Rattle.verdict.specs.Steps.{soonerOf}
 use Rattle.verdict.proofs.sooner.Statement.{statement}

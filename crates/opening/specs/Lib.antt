@@ -1,0 +1,4 @@
+pub mod Opening
+pub mod OpenLaws
+pub mod Choosing
+pub mod ChooseLaws

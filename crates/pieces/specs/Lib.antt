@@ -1,0 +1,4 @@
+pub mod Seek
+pub mod SeekLaws
+pub mod Pieces
+pub mod PiecesLaws

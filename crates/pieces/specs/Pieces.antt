@@ -1,0 +1,84 @@
+-- What is looked up: a label by its ends and one of its minutes; the two labels that meet at a pivot; a run by its ends and minutes.
+use Prim.Native.Nat.{ℕ, min, _*_, _≤_, _<_}
+use mathlib.Core.Path.{_≡_}
+use mathlib.Core.List.{List}
+use mathlib.Core.Option.{Option}
+use lib.ListN.{length, getD}
+use Rattle.kinds.specs.declared.Label as kinds
+use Rattle.kinds.specs.declared.Run.{Run}
+use Rattle.journeys.specs.Tables.{Side, Tables, Entry, Label}
+use Rattle.journeys.specs.Check.{Halves}
+use Rattle.journeys.specs.SketchLaws.{LabelWith}
+use Rattle.tables.specs.File.{startOf, pivotOf, tablesOf}
+use Rattle.tables.specs.Good.{GoodFile}
+use Rattle.timetable.specs.Numbers.{runAt}
+use Rattle.pieces.specs.declared.Moment.{Moment}
+use Rattle.pieces.specs.declared.Span.{Span}
+use Rattle.pieces.specs.declared.Sought.{Sought}
+use Rattle.pieces.specs.declared.Sought.the-variants.{Found, Missing}
+use Rattle.pieces.specs.declared.Meeting.{Meeting}
+use Rattle.pieces.specs.declared.Parted.{Parted}
+use Rattle.pieces.specs.declared.Parted.the-variants as parted
+use Rattle.pieces.specs.Seek.{Exactly}
+
+-- a good file of n stops, with the starts of its sets written down and the number of labels behind them
+pub record Ready (b : List ℕ) (n : ℕ) (starts : List ℕ) : Type 0 where
+  pub file : GoodFile b n
+  pub long : 2 * n < length starts
+  pub are : (set : ℕ) → set ≤ 2 * n → getD starts set 0 ≡ startOf b set
+
+-- the set of the owner s on this side lies between these bounds
+pub record SetAt (b : List ℕ) (n : ℕ) (side : Side) (s from to : ℕ) : Type 0 where
+  pub file : GoodFile b n
+  pub owner : s < n
+  pub start : tablesOf b .start side s ≡ from
+  pub end : tablesOf b .end side s ≡ to
+
+-- a label of the owner s on this side with this hub and this moment, or that there is none
+pub record FoundIn (T : Tables) (side : Side) (s h : ℕ) (m : Moment) (l : kinds.Label) : Type 0 where
+  pub number : ℕ
+  pub entry : Entry T side number s h (l .dep) (l .arr) (pivotOf (l .pivot))
+  pub hub : l .hub ≡ h
+  pub says : Exactly m (l .dep) (l .arr)
+
+abbrev pub SoughtIn : Tables → Side → ℕ → ℕ → Moment → Sought → Type 0
+SoughtIn T side s hub m (Found l) = FoundIn T side s hub m l
+SoughtIn T side s hub m Missing = (k d a : ℕ) (p : Option ℕ) → Entry T side k s hub d a p → ¬ (Exactly m d a)
+
+-- "the label u to p that leaves at the same minute", "the label p to v that arrives at the same minute", or that there is none.
+-- (Its hub is the end with the lower number.)
+pub record FoundLabel (T : Tables) (u v : ℕ) (m : Moment) (l : kinds.Label) : Type 0 where
+  pub label : Label T u v (l .dep) (l .arr) (pivotOf (l .pivot))
+  pub hub : l .hub ≡ min u v
+  pub says : Exactly m (l .dep) (l .arr)
+
+abbrev pub SoughtAs : Tables → ℕ → ℕ → Moment → Sought → Type 0
+SoughtAs T u v m (Found l) = FoundLabel T u v m l
+SoughtAs T u v m Missing = ¬ (LabelWith T u v (Exactly m))
+
+-- a span whose pivot is a stop, as its ends are
+pub record SpanParts (n : ℕ) (s : Span) : Type 0 where
+  pub from-stop : s .from < n
+  pub to-stop : s .to < n
+  pub pivot-stop : s .pivot < n
+
+-- "the label u to p that leaves at the same minute, then the label p to v that arrives at the same minute, the first arriving no later than
+-- the second leaves", or that they are not there
+pub record MeetAt (T : Tables) (s : Span) (h : Meeting) : Type 0 where
+  pub first : Label T (s .from) (s .pivot) (s .dep) (h .mid) (pivotOf (h .first))
+  pub second : Label T (s .pivot) (s .to) (h .start) (s .arr) (pivotOf (h .second))
+  pub meets : h .mid ≤ h .start
+
+abbrev pub PartedAs : Tables → Span → Parted → Type 0
+PartedAs T s (parted.Met h) = MeetAt T s h
+PartedAs T s parted.Missing = ¬ (Halves T (s .from) (s .pivot) (s .to) (s .dep) (s .arr))
+
+-- "run with its ends and minutes"
+pub record IsRun (r : Run) (s : Span) : Type 0 where
+  pub goes : r .from ≡ s .from
+  pub ends : r .to ≡ s .to
+  pub leaves : r .dep ≡ s .dep
+  pub arrives : r .arr ≡ s .arr
+
+abbrev pub RunIs : List ℕ → Span → ℕ → Type 0
+RunIs list s i = IsRun (runAt list i) s

@@ -1,0 +1,219 @@
+-- Laws of what is looked up.
+use Prim.Native.Nat.{ℕ, _+_, _*_, _≤_, _<_}
+use mathlib.Core.Path.{_≡_, refl, sym, ap, subst, _∙_}
+use mathlib.Core.List.{List}
+use mathlib.Core.Logic.{_⊎_, inl, inr}
+use mathlib.Core.Bool.{Bool, true, false}
+use mathlib.Core.Option.{Option}
+use native.Mathlib.Omega.{arith}
+use native.Mathlib.Nat.{le-of-lt, min-eq-left, min-eq-right}
+use native.Mathlib.Decide.{decLt, ℕ-discrete}
+use lib.ListN.{length, getD}
+use Rattle.loops.specs.First.{FirstAt}
+use Rattle.loops.specs.Tells.{Tells}
+use Rattle.loops.specs.TellsLaws.{told-true, told-false}
+use Rattle.kinds.specs.Limits.{mostStops, noPivot}
+use Rattle.kinds.specs.declared.Label as kinds
+use Rattle.journeys.specs.Tables.{Side, outs, ins, Tables, Entry, of-out, of-in, Label, GoodTables}
+use Rattle.journeys.specs.Check.{Halves}
+use Rattle.journeys.specs.SketchLaws.{entry-at, LabelWith, one-by-dep, one-by-arr}
+use Rattle.tables.specs.File.{startOf, setOf, labelsOf, labelAt, pivotOf, tablesOf}
+use Rattle.tables.specs.FileLaws.{start-more}
+use Rattle.tables.specs.Good.{GoodFile}
+use Rattle.kinds.specs.declared.Run.{Run}
+use Rattle.timetable.specs.Numbers.{runAt, serviceOf}
+use Rattle.tables.specs.TablesLaws.{pivot-none, pivot-some, tables-stops, tables-start, tables-end, tables-within, good-tables}
+use Rattle.pieces.specs.declared.Moment.{Moment}
+use Rattle.pieces.specs.declared.Moment.the-variants.{Leaving, Arriving}
+use Rattle.pieces.specs.declared.Sought.{Sought}
+use Rattle.pieces.specs.declared.Sought.the-variants.{Found, Missing}
+use Rattle.pieces.specs.Seek.{Exactly, NotBefore, Past, AtLabel}
+use Rattle.pieces.specs.declared.Span.{Span}
+use Rattle.pieces.specs.declared.Meeting.{Meeting}
+use Rattle.pieces.specs.declared.Parted.{Parted}
+use Rattle.pieces.specs.declared.Parted.the-variants as parted
+use Rattle.pieces.specs.Pieces.{Ready, SetAt, FoundIn, SoughtIn, FoundLabel, SoughtAs, MeetAt, PartedAs, IsRun, RunIs}
+
+-- ---- the place that was found, in one set of good tables
+
+exactly-not-before : (m : Moment) (d a : ℕ) → Exactly m d a → NotBefore m d a
+exactly-not-before (Leaving t) d a e = omega arith
+exactly-not-before (Arriving t) d a e = omega arith
+
+module _ {T : Tables} (G : GoodTables T) {side : Side} {s hub : ℕ} where
+  -- of one hub the minutes rise: a label with this moment is not after one that is not before it, unless that one has the moment too
+  rising : (m : Moment) {i k d e a b : ℕ} {p q : Option ℕ} → Entry T side k s hub d a p → Entry T side i s hub e b q → k < i → NotBefore m d a → ¬ (Exactly m e b)
+  rising (Leaving t) x y lt h f = omega (arith, G .deps-rise x y lt)
+  rising (Arriving t) x y lt h f = omega (arith, G .arrs-rise x y lt)
+
+  -- a label with this hub and this moment stands at the place that was found
+  pub stands-there : (m : Moment) {k i d a : ℕ} {p : Option ℕ} → FirstAt (Past T hub m) (T .start side s) (T .end side s) k → Entry T side i s hub d a p → Exactly m d a → i ≡ k
+  stands-there m {k} {i} {d} {a} F x f = go (decLt i k) (decLt k i)
+    where
+      after : k < i → Past T hub m k → ⊥
+      after lt (inl h) = omega (arith, G .hubs-rise (entry-at (x .owner) (F .passed .low) (omega (arith, x .high))) x lt)
+      after lt (inr h) =
+          rising m (subst (λ g. Entry T side k s g (T .dep k) (T .arr k) (T .pivot k)) (h .0) (entry-at (x .owner) (F .passed .low) (omega (arith, x .high)))) x lt (h .1) f
+
+      go : Dec (i < k) → Dec (k < i) → i ≡ k
+      go (yes lt) z = absurd (F .passed .none i (x .low) lt (inr (x .hub, rw (x .dep, x .arr) (exactly-not-before m d a f))))
+      go (no l) (yes lt) = absurd (after lt (F .here (omega (arith, x .high))))
+      go (no l) (no h) = omega arith
+
+  -- so there is none where none stands at that place
+  pub none-there : (m : Moment) {k : ℕ} → FirstAt (Past T hub m) (T .start side s) (T .end side s) k →
+      (k < T .end side s → T .hub k ≡ hub → ¬ (Exactly m (T .dep k) (T .arr k))) → SoughtIn T side s hub m Missing
+  none-there m {k} F off i d a p x f =
+      let e = stands-there m F x f in
+      off (omega (arith, x .high)) (rw (← e) (x .hub)) (rw (← e, x .dep, x .arr) f)
+
+-- what the search in a set says of it, where place k was found between the set's bounds
+module _ {b : List ℕ} {n : ℕ} {side : Side} {s from to hub : ℕ} (m : Moment) {k : ℕ} (A : SetAt b n side s from to) (F : FirstAt (Past (tablesOf b) hub m) from to k) where
+  in-set : FirstAt (Past (tablesOf b) hub m) (tablesOf b .start side s) (tablesOf b .end side s) k
+  in-set = rw (A .start, A .end) F
+
+  pub past-end : to ≤ k → SoughtIn (tablesOf b) side s hub m Missing
+  past-end h = none-there (good-tables (A .file)) m in-set (λ lt e. absurd (omega (arith, A .end)))
+
+  -- label k was read as l, and the test of l answered r
+  module _ (l : kinds.Label) {r : Bool} (e : l ≡ labelAt b k) (t : Tells (AtLabel l hub m) r) where
+    pub not-there : r ≡ false → SoughtIn (tablesOf b) side s hub m Missing
+    unfolding tablesOf
+    not-there f = none-there (good-tables (A .file)) m in-set (λ lt h q. told-false t f (subst (λ x. AtLabel x hub m) (sym e) (h, q)))
+
+    pub there : k < to → r ≡ true → FoundIn (tablesOf b) side s hub m l
+    unfolding tablesOf
+    there lt f = record {
+      number = k;
+      entry = rw e (record { owner = omega (arith, A .owner, A .file .room .contents .stops); low = in-set .passed .low; high = omega (arith, A .end); hub = ap (λ x. x .hub) (sym e) ∙ told-true t f .0; dep = refl; arr = refl; pivot = refl });
+      hub = told-true t f .0;
+      says = told-true t f .1;
+    }
+
+-- ---- the bounds that were written down, and the label by its ends
+
+module _ {b : List ℕ} {n : ℕ} {starts : List ℕ} (R : Ready b n starts) where
+  pub ready-stops : tablesOf b .stops ≡ n
+  ready-stops = tables-stops b ∙ R .file .room .contents .stops
+
+  pub ready-few : tablesOf b .stops ≤ mostStops
+  ready-few = omega (arith, ready-stops, R .file .room .contents .few)
+
+  set-at : (side : Side) (s from to : ℕ) → s < n → setOf side s < 2 * n → from ≡ getD starts (setOf side s) 0 → to ≡ getD starts (setOf side s + 1) 0 → SetAt b n side s from to
+  set-at side s from to lt h e f = record {
+    file = R .file;
+    owner = lt;
+    start = tables-start b side s ∙ sym (R .are (setOf side s) (omega arith)) ∙ sym e;
+    end = tables-end b side s ∙ sym (start-more b (setOf side s)) ∙ sym (R .are (setOf side s + 1) (omega arith)) ∙ sym f;
+  }
+
+  pub outs-at : (s from to : ℕ) → s < n → from ≡ getD starts (2 * s) 0 → to ≡ getD starts (2 * s + 1) 0 → SetAt b n outs s from to
+  outs-at s from to lt = set-at outs s from to lt (omega arith)
+
+  pub ins-at : (s from to : ℕ) → s < n → from ≡ getD starts (2 * s + 1) 0 → to ≡ getD starts (2 * s + 1 + 1) 0 → SetAt b n ins s from to
+  ins-at s from to lt = set-at ins s from to lt (omega arith)
+
+-- bounds of a set are in order, and within the labels
+pub set-bounds : {b : List ℕ} {n : ℕ} {side : Side} {s from to : ℕ} → SetAt b n side s from to → (from ≤ to) × (to ≤ labelsOf b)
+set-bounds {b} {side = side} {s} A = (omega (arith, A .start, A .end, tables-start b side s, tables-end b side s), omega (arith, A .end, tables-within (A .file) side s (A .owner)))
+
+module _ {T : Tables} (G : GoodTables T) {u v : ℕ} (m : Moment) where
+  -- a label u to v stands among the out-labels of u where v is the lower number, else among the in-labels of v
+  pub of-outs : (r : Sought) → v < u → SoughtIn T outs u v m r → SoughtAs T u v m r
+  of-outs (Found l) lt x = record { label = (x .number, of-out (x .entry)); hub = x .hub ∙ sym (min-eq-right (le-of-lt lt)); says = x .says }
+  of-outs Missing lt n = λ w. none (w .label) (w .says)
+    where
+      none : {d a : ℕ} {p : Option ℕ} → Label T u v d a p → ¬ (Exactly m d a)
+      none {d} {a} {p} (k, of-out e) = n k d a p e
+      none (k, of-in e) = λ _. omega (arith, G .below e)
+
+  pub of-ins : (r : Sought) → u ≤ v → SoughtIn T ins v u m r → SoughtAs T u v m r
+  of-ins (Found l) le x = record { label = (x .number, of-in (x .entry)); hub = x .hub ∙ sym (min-eq-left le); says = x .says }
+  of-ins Missing le n = λ w. none (w .label) (w .says)
+    where
+      none : {d a : ℕ} {p : Option ℕ} → Label T u v d a p → ¬ (Exactly m d a)
+      none {d} {a} {p} (k, of-in e) = n k d a p e
+      none (k, of-out e) = λ _. omega (arith, G .below e)
+
+-- ---- the two halves
+
+module _ {T : Tables} (s : Span) where
+  pub no-first : ¬ (LabelWith T (s .from) (s .pivot) (Exactly (Leaving (s .dep)))) → ¬ (Halves T (s .from) (s .pivot) (s .to) (s .dep) (s .arr))
+  no-first n h = n (record { dep = s .dep; arr = h .mid; pivot = h .pivot₁; label = h .first; says = refl })
+
+  pub no-second : ¬ (LabelWith T (s .pivot) (s .to) (Exactly (Arriving (s .arr)))) → ¬ (Halves T (s .from) (s .pivot) (s .to) (s .dep) (s .arr))
+  no-second n h = n (record { dep = h .start; arr = s .arr; pivot = h .pivot₂; label = h .second; says = refl })
+
+  module _ {x y : kinds.Label} (F : FoundLabel T (s .from) (s .pivot) (Leaving (s .dep)) x) (L : FoundLabel T (s .pivot) (s .to) (Arriving (s .arr)) y) where
+    first-of : Label T (s .from) (s .pivot) (s .dep) (x .arr) (pivotOf (x .pivot))
+    first-of = subst (λ d. Label T (s .from) (s .pivot) d (x .arr) (pivotOf (x .pivot))) (F .says) (F .label)
+
+    second-of : Label T (s .pivot) (s .to) (y .dep) (s .arr) (pivotOf (y .pivot))
+    second-of = subst (λ a. Label T (s .pivot) (s .to) (y .dep) a (pivotOf (y .pivot))) (L .says) (L .label)
+
+    pub met : x .arr ≤ y .dep → MeetAt T s (record { mid = x .arr; first = x .pivot; start = y .dep; second = y .pivot })
+    met h = record { first = first-of; second = second-of; meets = h }
+
+    pub no-meeting : GoodTables T → y .dep < x .arr → ¬ (Halves T (s .from) (s .pivot) (s .to) (s .dep) (s .arr))
+    no-meeting G lt h =
+        let e = one-by-dep G (h .first) first-of .0 in
+        let f = one-by-arr G (h .second) second-of .0 in
+        omega (arith, h .meets)
+
+-- ---- no second answer meets the contracts
+
+pivot-one : (p q : ℕ) → pivotOf p ≡ pivotOf q → p ≡ q
+pivot-one p q e = go (ℕ-discrete p noPivot) (ℕ-discrete q noPivot)
+  where
+    go : Dec (p ≡ noPivot) → Dec (q ≡ noPivot) → p ≡ q
+    go (yes h) (yes k) = h ∙ sym k
+    go (yes h) (no k) = absurd (let x = sym (pivot-none p h) ∙ e ∙ pivot-some q k in let z : _≡_ {A = ℕ} 0 1 = cc in omega arith)
+    go (no h) (yes k) = absurd (let x = sym (pivot-some p h) ∙ e ∙ pivot-none q k in let z : _≡_ {A = ℕ} 0 1 = cc in omega arith)
+    go (no h) (no k) = let x = sym (pivot-some p h) ∙ e ∙ pivot-some q k in cc
+
+same-label : {d e a b h g p q : ℕ} → h ≡ g → d ≡ e → a ≡ b → p ≡ q →
+    _≡_ {A = kinds.Label} (record { hub = h; dep = d; arr = a; pivot = p }) (record { hub = g; dep = e; arr = b; pivot = q })
+same-label e f g h = cc
+
+same-fields : {a b c d e f g h : ℕ} → a ≡ e → b ≡ f → c ≡ g → d ≡ h →
+    _≡_ {A = Meeting} (record { mid = a; first = b; start = c; second = d }) (record { mid = e; first = f; start = g; second = h })
+same-fields e f g h = cc
+
+module _ {T : Tables} (G : GoodTables T) where
+  same-found : {u v : ℕ} (m : Moment) {x y : kinds.Label} → FoundLabel T u v m x → FoundLabel T u v m y → x ≡ y
+  same-found {u} {v} (Leaving t) {x} {y} f g =
+      let s = one-by-dep G (subst (λ d. Label T u v d (x .arr) (pivotOf (x .pivot))) (f .says) (f .label)) (subst (λ d. Label T u v d (y .arr) (pivotOf (y .pivot))) (g .says) (g .label)) in
+      same-label (f .hub ∙ sym (g .hub)) (f .says ∙ sym (g .says)) (s .0) (pivot-one (x .pivot) (y .pivot) (s .1))
+  same-found {u} {v} (Arriving t) {x} {y} f g =
+      let s = one-by-arr G (subst (λ a. Label T u v (x .dep) a (pivotOf (x .pivot))) (f .says) (f .label)) (subst (λ a. Label T u v (y .dep) a (pivotOf (y .pivot))) (g .says) (g .label)) in
+      same-label (f .hub ∙ sym (g .hub)) (s .0) (f .says ∙ sym (g .says)) (pivot-one (x .pivot) (y .pivot) (s .1))
+
+  pub sought-one : (u v : ℕ) (m : Moment) (r s : Sought) → SoughtAs T u v m r → SoughtAs T u v m s → r ≡ s
+  sought-one u v m (Found x) (Found y) f g = ap Found (same-found m f g)
+  sought-one u v m (Found x) Missing f n = absurd (n (record { dep = x .dep; arr = x .arr; pivot = pivotOf (x .pivot); label = f .label; says = f .says }))
+  sought-one u v m Missing (Found y) n g = absurd (n (record { dep = y .dep; arr = y .arr; pivot = pivotOf (y .pivot); label = g .label; says = g .says }))
+  sought-one u v m Missing Missing n k = refl
+
+  met-halves : (s : Span) (h : Meeting) → MeetAt T s h → Halves T (s .from) (s .pivot) (s .to) (s .dep) (s .arr)
+  met-halves s h x = record { mid = h .mid; start = h .start; pivot₁ = pivotOf (h .first); pivot₂ = pivotOf (h .second); first = x .first; second = x .second; meets = x .meets }
+
+  same-meeting : (s : Span) (h k : Meeting) → MeetAt T s h → MeetAt T s k → h ≡ k
+  same-meeting s h k x y =
+      let a = one-by-dep G (x .first) (y .first) in
+      let b = one-by-arr G (x .second) (y .second) in
+      same-fields (a .0) (pivot-one (h .first) (k .first) (a .1)) (b .0) (pivot-one (h .second) (k .second) (b .1))
+
+  pub parted-one : (s : Span) (x y : Parted) → PartedAs T s x → PartedAs T s y → x ≡ y
+  parted-one s (parted.Met h) (parted.Met k) f g = ap parted.Met (same-meeting s h k f g)
+  parted-one s (parted.Met h) parted.Missing f n = absurd (n (met-halves s h f))
+  parted-one s parted.Missing (parted.Met k) n g = absurd (n (met-halves s k g))
+  parted-one s parted.Missing parted.Missing n k = refl
+
+-- ---- the run
+
+module _ (list : List ℕ) (s : Span) (i : ℕ) (run : Run) {r : Bool} (e : run ≡ runAt list i) where
+  pub run-true : Tells (IsRun run s) r → r ≡ true → RunIs list s i
+  run-true t f = subst (λ x. IsRun x s) e (told-true t f)
+
+  pub run-false : Tells (IsRun run s) r → r ≡ false → ¬ (RunIs list s i)
+  run-false t f p = told-false t f (subst (λ x. IsRun x s) (sym e) p)

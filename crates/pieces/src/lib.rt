@@ -1,0 +1,203 @@
+// What a label is made of, looked up in good tables and good numbers: the lowest-numbered run with its ends and minutes, or the two
+// labels that meet at its pivot.
+use kinds::Label;
+use kinds::Run;
+ghost use mathlib.Core.Path.{_≡_};
+ghost use Prim.Native.Nat.{ℕ, _*_, _≤_, _<_};
+ghost use lib.ListN.{length, getD};
+ghost use Rattle.loops.specs.First.{FirstAt};
+ghost use Rattle.loops.specs.Tells.{Tells};
+ghost use Rattle.journeys.specs.Tables.{Side};
+ghost use Rattle.tables.specs.File.{tablesOf, labelsOf};
+ghost use Rattle.tables.specs.Good.{Room};
+ghost use Rattle.pieces.specs.Seek.{PastLabel, Past, AtLabel};
+ghost use Rattle.timetable.specs.Numbers.{GoodNumbers};
+ghost use Rattle.pieces.specs.Pieces.{Ready, SetAt, SoughtIn, SoughtAs, SpanParts, PartedAs, IsRun, RunIs};
+
+// A label by its ends, its minutes and its pivot (Label::NO_PIVOT for none). A pair of labels that meet at a stop is one too, with that
+// stop for its pivot.
+pub struct Span {
+    pub from: u16,
+    pub to: u16,
+    pub dep: u16,
+    pub arr: u16,
+    pub pivot: u16,
+}
+
+// By which of its minutes a label is looked for.
+pub enum Moment {
+    Leaving(u16),
+    Arriving(u16),
+}
+
+// A label that was looked for.
+pub enum Sought {
+    Found(Label),
+    Missing,
+}
+
+// The two labels that meet at a pivot: the first arrives at `mid`, the second leaves at `start`; and their pivots.
+pub struct Meeting {
+    pub mid: u16,
+    pub first: u16,
+    pub start: u16,
+    pub second: u16,
+}
+
+pub enum Parted {
+    Met(Meeting),
+    Missing,
+}
+
+// Whether a label comes at or after the place, in its set, of one with this hub and this moment.
+fn is_past(l: Label, hub: u16, m: Moment) -> bool
+    ensures { λ r. ⌜ Tells (PastLabel l hub m) r ⌝ }
+{
+    if hub < l.hub {
+        return true;
+    }
+    if l.hub < hub {
+        return false;
+    }
+    match m {
+        Moment::Leaving(t) => t <= l.dep,
+        Moment::Arriving(t) => t <= l.arr,
+    }
+}
+
+// Whether a label has this hub and this moment.
+fn is_at(l: Label, hub: u16, m: Moment) -> bool
+    ensures { λ r. ⌜ Tells (AtLabel l hub m) r ⌝ }
+{
+    if l.hub != hub {
+        return false;
+    }
+    match m {
+        Moment::Leaving(t) => l.dep == t,
+        Moment::Arriving(t) => l.arr == t,
+    }
+}
+
+// Where a label with this hub and this moment stands or would stand, from `from` on and up to `to`.
+pub fn seek(tables: &[u8], n: u16, from: usize, to: usize, hub: u16, m: Moment) -> usize
+    requires { ⌜ Room (now tables) n ⌝ }
+    requires { ⌜ (from ≤ to) × (to ≤ labelsOf (now tables)) ⌝ }
+    ensures { λ r. ⌜ FirstAt (Past (tablesOf (now (tables .entry))) hub m) from to r ⌝ }
+{
+    let mut k = from;
+    while k < to {
+        let l = tables::label_at(tables, n, k);
+        if is_past(l, hub, m) {
+            return k;
+        }
+        k += 1;
+    }
+    k
+}
+
+// The label with this hub and this moment in one set, whose bounds are given.
+fn find_in(tables: &[u8], n: u16, from: usize, to: usize, hub: u16, m: Moment) -> Sought
+    requires { ⌜ Room (now tables) n ⌝ }
+    requires { ⌜ (from ≤ to) × (to ≤ labelsOf (now tables)) ⌝ }
+    ensures { λ r. ⌜ ((side : Side) (s : ℕ) → SetAt (now (tables .entry)) n side s from to → SoughtIn (tablesOf (now (tables .entry))) side s hub m r) ⌝ }
+{
+    let k = seek(tables, n, from, to, hub, m);
+    if to <= k {
+        return Sought::Missing;
+    }
+    let l = tables::label_at(tables, n, k);
+    if is_at(l, hub, m) {
+        return Sought::Found(l);
+    }
+    Sought::Missing
+}
+
+// Where a set starts. The starts of all sets, and behind them the number of labels, are in `starts`.
+pub fn start_at(starts: &[u16], set: usize) -> usize
+    requires { ⌜ set < length (now starts) ⌝ }
+    ensures { λ r. ⌜ r ≡ getD (now (starts .entry)) set 0 ⌝ }
+{
+    starts[set] as usize
+}
+
+// The label u to v with this moment: an out-label of u with hub v, or an in-label of v with hub u.
+pub fn find(tables: &[u8], n: u16, starts: &[u16], u: u16, v: u16, m: Moment) -> Sought
+    requires { ⌜ Ready (now tables) n (now starts) ⌝ }
+    requires { ⌜ (u < n) × (v < n) ⌝ }
+    ensures { λ r. ⌜ SoughtAs (tablesOf (now (tables .entry))) u v m r ⌝ }
+{
+    if v < u {
+        let set = 2 * (u as usize);
+        let from = start_at(starts, set);
+        let to = start_at(starts, set + 1);
+        return find_in(tables, n, from, to, v, m);
+    }
+    let set = 2 * (v as usize) + 1;
+    let from = start_at(starts, set);
+    let to = start_at(starts, set + 1);
+    find_in(tables, n, from, to, u, m)
+}
+
+// A label with a pivot is parted into the label to the pivot that leaves at the same minute and the label from the pivot that arrives at
+// the same minute, if they meet.
+pub fn halves(tables: &[u8], n: u16, starts: &[u16], s: Span) -> Parted
+    requires { ⌜ Ready (now tables) n (now starts) ⌝ }
+    requires { ⌜ SpanParts n s ⌝ }
+    ensures { λ r. ⌜ PartedAs (tablesOf (now (tables .entry))) s r ⌝ }
+{
+    let first = find(tables, n, starts, s.from, s.pivot, Moment::Leaving(s.dep));
+    match first {
+        Sought::Missing => Parted::Missing,
+        Sought::Found(x) => {
+            let second = find(tables, n, starts, s.pivot, s.to, Moment::Arriving(s.arr));
+            match second {
+                Sought::Missing => Parted::Missing,
+                Sought::Found(y) => {
+                    if y.dep < x.arr {
+                        return Parted::Missing;
+                    }
+                    Parted::Met(Meeting {
+                        mid: x.arr,
+                        first: x.pivot,
+                        start: y.dep,
+                        second: y.pivot,
+                    })
+                }
+            }
+        }
+    }
+}
+
+fn is_run(run: Run, s: Span) -> bool
+    ensures { λ r. ⌜ Tells (IsRun run s) r ⌝ }
+{
+    if run.from != s.from {
+        return false;
+    }
+    if run.to != s.to {
+        return false;
+    }
+    if run.dep != s.dep {
+        return false;
+    }
+    if run.arr != s.arr {
+        return false;
+    }
+    true
+}
+
+// The lowest-numbered run with these ends and minutes, or the number of runs.
+pub fn find_run(runs: &[u32], count: usize, s: Span) -> usize
+    requires { ⌜ ((stops : ℕ) × GoodNumbers stops count (now runs)) ⌝ }
+    ensures { λ r. ⌜ FirstAt (RunIs (now (runs .entry)) s) 0 count r ⌝ }
+{
+    let mut i = 0;
+    while i < count {
+        let run = timetable::run_at(runs, i);
+        if is_run(run, s) {
+            return i;
+        }
+        i += 1;
+    }
+    i
+}

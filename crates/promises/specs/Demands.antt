@@ -1,0 +1,54 @@
+-- Demands 2 and 3 in terms of the timetable: what an ask gets, said of journeys only.
+use Prim.Native.Nat.{ℕ}
+use mathlib.Core.Path.{_≡_}
+use mathlib.Core.List.{List}
+use Rattle.kinds.specs.Refusals.{noJourney, refusal}
+use Rattle.journeys.specs.Service.{Service}
+use Rattle.journeys.specs.Journey.{Journey}
+use Rattle.journeys.specs.Criteria.{Best, Nothing}
+use Rattle.asks.specs.declared.AskRead.{AskRead}
+use Rattle.asks.specs.declared.AskRead.the-variants as ask
+use Rattle.asks.specs.declared.Wanted.{Wanted}
+use Rattle.asks.specs.declared.Answer.{Answer}
+use Rattle.asks.specs.declared.Answer.the-variants.{At, No}
+use Rattle.asks.specs.Asks.{asked}
+use Rattle.verdict.specs.declared.Verdict.{Verdict}
+use Rattle.verdict.specs.declared.Verdict.the-variants as verdict
+use Rattle.timetable.specs.Numbers.{serviceOf}
+use Rattle.verdict.specs.Verdict.{Checked}
+use Rattle.loops.specs.Zero.{zeros}
+use Rattle.rides.specs.declared.RidesAnswer.{RidesAnswer}
+use Rattle.rides.specs.declared.RidesAnswer.the-variants as rides
+use Rattle.rides.specs.Lists.{ridesAsked}
+use Rattle.rides.specs.Accepted.{TrulyLists}
+
+-- "every ask gets the timetable's best": the best among all journeys, or 16 exactly when there is none; what is out of order is refused as it must be
+abbrev pub TimetableAnswers : Service → AskRead → Answer → Type 0
+TimetableAnswers S (ask.No r) x = x ≡ No r
+TimetableAnswers S (ask.Good q) (At j) = Best (Journey S (q .from) (q .to)) (q .criterion) (j .dep) (j .arr)
+TimetableAnswers S (ask.Good q) (No r) = (r ≡ refusal noJourney 0) × Nothing (Journey S (q .from) (q .to)) (q .criterion)
+
+-- tables are checked first; only what the check accepts is asked
+abbrev pub AfterCheck : Verdict → Service → AskRead → Answer → Type 0
+AfterCheck verdict.Accepted S q x = TimetableAnswers S q x
+AfterCheck (verdict.No r) S q x = x ≡ No r
+
+-- an ask of tables from anyone, checked against the timetable's numbers
+pub record CheckedAsk (b : List ℕ) (stops count : ℕ) (list : List ℕ) (lent from to : ℕ) (w : Wanted) (x : Answer) : Type 0 where
+  pub verdict : Verdict
+  pub checked : Checked b stops count list lent verdict
+  pub answer : AfterCheck verdict (serviceOf stops count list) (asked b from to w) x
+
+-- the same with rides: "with rides, lent its rooms, the same and the list is such a journey"; 18 never comes
+abbrev pub TimetableLists : Service → AskRead → List ℕ → List ℕ → RidesAnswer → Type 0
+TimetableLists S (ask.No r) before after x = (x ≡ rides.No r) × (after ≡ zeros before)
+TimetableLists S (ask.Good q) before after x = TrulyLists S q before after x
+
+abbrev pub AfterCheckLists : Verdict → Service → AskRead → List ℕ → List ℕ → RidesAnswer → Type 0
+AfterCheckLists verdict.Accepted S q before after x = TimetableLists S q before after x
+AfterCheckLists (verdict.No r) S q before after x = (x ≡ rides.No r) × (after ≡ zeros before)
+
+pub record CheckedRides (b : List ℕ) (stops count : ℕ) (list : List ℕ) (lent from to : ℕ) (w : Wanted) (before after : List ℕ) (x : RidesAnswer) : Type 0 where
+  pub verdict : Verdict
+  pub checked : Checked b stops count list lent verdict
+  pub answer : AfterCheckLists verdict (serviceOf stops count list) (ridesAsked b stops count list lent from to w) before after x

@@ -1,0 +1,65 @@
+// Demand 3 as functions: tables from anyone are checked, and only then asked. Their contracts speak of the timetable's journeys only.
+use asks::Answer;
+use asks::Wanted;
+use rides::RidesAnswer;
+use verdict::Verdict;
+ghost use mathlib.Core.Path.{_≡_};
+ghost use lib.ListN.{length};
+ghost use Rattle.loops.specs.Zero.{zeros};
+ghost use Rattle.promises.specs.Demands.{CheckedAsk, CheckedRides};
+
+// Any ask of tables that the check accepts against the timetable; else the check's refusal.
+pub fn checked_ask(
+    tables: &[u8],
+    stops: u32,
+    run_count: u32,
+    runs: &[u32],
+    from: u32,
+    to: u32,
+    w: Wanted,
+    work: &mut [u16],
+) -> Answer
+    ensures { λ r. ⌜ CheckedAsk (now (tables .entry)) stops «run_count» (now (runs .entry)) (length (now (work .entry))) from to w r ⌝ }
+    ensures { λ _. ⌜ now (work .exit) ≡ zeros (now (work .entry)) ⌝ }
+{
+    let verdict = verdict::check(tables, stops, run_count, runs, work);
+    match verdict {
+        Verdict::Accepted => asks::answered(tables, from, to, w),
+        Verdict::No(r) => Answer::No(r),
+    }
+}
+
+// The same with the rides. The check's working room serves the ask as well: both need the same.
+pub fn checked_rides(
+    tables: &[u8],
+    stops: u32,
+    run_count: u32,
+    runs: &[u32],
+    from: u32,
+    to: u32,
+    w: Wanted,
+    list: &mut [u32],
+    work: &mut [u16],
+) -> RidesAnswer
+    ensures { λ r. ⌜ CheckedRides (now (tables .entry)) stops «run_count» (now (runs .entry)) (length (now (work .entry))) from to w (now (list .entry)) (now (list .exit)) r ⌝ }
+    ensures { λ _. ⌜ now (work .exit) ≡ zeros (now (work .entry)) ⌝ }
+{
+    let verdict = verdict::check(tables, stops, run_count, runs, work);
+    match verdict {
+        Verdict::Accepted => rides::answered(
+            tables,
+            stops,
+            run_count,
+            runs,
+            from,
+            to,
+            w,
+            list,
+            work,
+        ),
+        Verdict::No(r) => {
+            loops::zero_u32(list);
+            RidesAnswer::No(r)
+        }
+    }
+}

@@ -1,0 +1,81 @@
+-- Over tables that the check accepts, an ask with rides speaks of the timetable's journeys; over any good tables the rides are a journey with
+-- the answered pair, and a list of 2,879 numbers is never too short.
+use Prim.Native.Nat.{ℕ, _≤_, _<_}
+use mathlib.Core.Path.{_≡_, sym, ap, _∙_}
+use mathlib.Core.List.{List}
+use mathlib.Core.Logic.{_≢_}
+use native.Mathlib.Omega.{arith}
+use lib.ListN.{length}
+use Rattle.kinds.specs.Limits.{lastMinute}
+use Rattle.kinds.specs.Refusals.{roomShort, ridesMissing, refusal}
+use Rattle.kinds.specs.declared.Refusal.{Refusal}
+use Rattle.journeys.specs.Service.{Service, GoodService}
+use Rattle.journeys.specs.Journey.{Journey, RidesOf}
+use Rattle.journeys.specs.Tables.{Tables, GoodTables}
+use Rattle.journeys.specs.Check.{AllSupported, Accepted}
+use Rattle.journeys.specs.AcceptedLaws.{accepted-best, accepted-nothing}
+use Rattle.journeys.specs.RidesLaws.{chosen-journey, chosen-all}
+use Rattle.tables.specs.File.{stopsOf, tablesOf}
+use Rattle.tables.specs.TablesLaws.{tables-stops, good-tables}
+use Rattle.timetable.specs.Numbers.{serviceOf}
+use Rattle.timetable.specs.NumbersLaws.{good-service, service-stops}
+use Rattle.asks.specs.declared.Wanted.{Wanted}
+use Rattle.asks.specs.declared.Asked.{Asked}
+use Rattle.asks.specs.declared.AskRead.the-variants as ask
+use Rattle.asks.specs.declared.Answer.the-variants as answer
+use Rattle.asks.specs.Asks.{Answers}
+use Rattle.rides.specs.declared.Listed.{Listed}
+use Rattle.rides.specs.declared.RidesAnswer.{RidesAnswer}
+use Rattle.rides.specs.declared.RidesAnswer.the-variants.{At, No}
+use Rattle.rides.specs.Lists.{ridesAsked, ListedAs, RefusedAs, no-journey, missing, short, Lists}
+use Rattle.rides.specs.ListsLaws.{Asking, asked-good, few-rides}
+use Rattle.rides.specs.Accepted as truly
+use Rattle.rides.specs.Accepted.{TrulyListed, TrulyRefused, TrulyLists}
+
+module _ {S : Service} {T : Tables} (q : Asked) where
+  -- the rides are a journey with exactly the answered pair
+  pub listed-journey : {before after : List ℕ} {j : Listed} (L : ListedAs S T q before after j) → RidesOf S (q .from) (q .to) (j .dep) (j .arr) (L .rides)
+  listed-journey L = chosen-journey (L .chosen)
+
+  -- the pair is that of the ask without rides
+  pub listed-answers : {before after : List ℕ} {j : Listed} → ListedAs S T q before after j → Answers T (ask.Good q) (answer.At (record { dep = j .dep; arr = j .arr }))
+  listed-answers L = L .best
+
+  -- no list of rides passes 2,879
+  pub room-enough : GoodTables T → {room : ℕ} {r : Refusal} → lastMinute ≤ room → RefusedAs S T q room r → r ≢ refusal roomShort 0
+  room-enough G h (no-journey e n) f = omega (arith, ap (λ (x : Refusal). x .number) (sym e ∙ f))
+  room-enough G h (missing e d a B n) f = omega (arith, ap (λ (x : Refusal). x .number) (sym e ∙ f))
+  room-enough G h (short e d a B l C lt) f = omega (arith, few-rides S T q G B C)
+
+  -- over supported tables 18 never comes
+  pub never-missing : GoodService S → GoodTables T → AllSupported S T → {room : ℕ} {r : Refusal} → RefusedAs S T q room r → r ≢ refusal ridesMissing 0
+  never-missing D G sup (no-journey e n) f = omega (arith, ap (λ (x : Refusal). x .number) (sym e ∙ f))
+  never-missing D G sup (missing e d a B n) f = let c = chosen-all D G sup (q .from) (q .to) d a (B .has) in n (c .0) (c .1)
+  never-missing D G sup (short e d a B l C lt) f = omega (arith, ap (λ (x : Refusal). x .number) (sym e ∙ f))
+
+module _ {S : Service} (D : GoodService S) {T : Tables} (G : GoodTables T) (same : T .stops ≡ S .stops) (ok : Accepted S T) (q : Asked) (apart : q .from ≢ q .to) where
+  truly-listed : {before after : List ℕ} {j : Listed} → ListedAs S T q before after j → TrulyListed S q before after j
+  truly-listed {j = j} L = record {
+    best = accepted-best D G same ok apart (q .criterion) (j .dep) (j .arr) .0 (L .best);
+    rides = L .rides;
+    way = chosen-journey (L .chosen);
+    count = L .count;
+    holds = L .holds;
+  }
+
+  truly-refused : {room : ℕ} {r : Refusal} → RefusedAs S T q room r → TrulyRefused S q room r
+  truly-refused (no-journey e n) = truly.no-journey e (accepted-nothing D G same ok apart (q .criterion) .0 n)
+  truly-refused (missing e d a B n) = let c = chosen-all D G (ok .supported) (q .from) (q .to) d a (B .has) in absurd (n (c .0) (c .1))
+  truly-refused (short e d a B l C lt) = truly.short e d a (accepted-best D G same ok apart (q .criterion) d a .0 B) l (chosen-journey C) lt
+
+  pub truly-lists : (before after : List ℕ) (x : RidesAnswer) → Lists S T (ask.Good q) before after x → TrulyLists S q before after x
+  truly-lists before after (At j) L = truly-listed L
+  truly-lists before after (No r) L = (truly-refused (L .0), L .1)
+
+-- the same from the bytes and the numbers, for an ask that is not refused
+pub accepted-lists : (b : List ℕ) (stops count : ℕ) (runs : List ℕ) (lent from to : ℕ) (w : Wanted) (q : Asked) (before after : List ℕ) (x : RidesAnswer) →
+    Accepted (serviceOf stops count runs) (tablesOf b) → ridesAsked b stops count runs lent from to w ≡ ask.Good q →
+    Lists (serviceOf stops count runs) (tablesOf b) (ask.Good q) before after x → TrulyLists (serviceOf stops count runs) q before after x
+accepted-lists b stops count runs lent from to w q before after x ok e L =
+    let A = asked-good b stops count runs lent from to w q e in
+    truly-lists (good-service (A .numbers)) (good-tables (A .file)) (tables-stops b ∙ A .file .room .contents .stops ∙ sym (service-stops stops count runs)) ok q (A .good .apart) before after x L

@@ -1,0 +1,4 @@
+pub mod Lists
+pub mod ListsLaws
+pub mod Accepted
+pub mod AcceptedLaws

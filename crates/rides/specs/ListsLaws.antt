@@ -1,0 +1,189 @@
+-- Laws of the asks with rides, for the functions that answer them: what a good ask has, what is listed, and that no second answer and no
+-- second list meet the contract.
+use Prim.Native.Nat.{ℕ, _+_, _*_, _-_, _≤_, _<_}
+use mathlib.Core.Path.{_≡_, refl, sym, ap, subst, subst₂, _∙_}
+use mathlib.Core.List.{List, _++_}
+use mathlib.Core.Bool.{Bool, true, false}
+use native.Mathlib.Omega.{arith}
+use lib.ListN.{length, getD, replicate}
+use lib.Dec.{eqb}
+use borrow.Author.Tests.{eqb-true}
+use Rattle.loops.specs.Chain.{stays}
+use Rattle.loops.specs.Unless.{unless}
+use Rattle.loops.specs.Zero.{zeros}
+use Rattle.loops.specs.ZeroLaws.{length-zeros}
+use Rattle.loops.specs.Filled.{filled}
+use Rattle.loops.specs.FilledLaws.{length-filled, filled-at}
+use Rattle.loops.specs.Written.{written}
+use Rattle.loops.specs.WrittenLaws.{written-zeros}
+use Rattle.kinds.specs.Limits.{lastMinute}
+use Rattle.kinds.specs.Refusals.{stopsDiffer, refusal}
+use Rattle.kinds.specs.declared.Refusal.{Refusal}
+use Rattle.journeys.specs.Service.{Service}
+use Rattle.journeys.specs.Criteria.{Best}
+use Rattle.journeys.specs.Tables.{Tables, GoodTables, Sketch}
+use Rattle.journeys.specs.Rides.{Chosen}
+use Rattle.journeys.specs.CriteriaLaws.{best-one, best-not-nothing}
+use Rattle.journeys.specs.SketchLaws.{sketch-last}
+use Rattle.journeys.specs.RidesLaws.{chosen-one, chosen-short}
+use Rattle.tables.specs.declared.TablesRead.{TablesRead}
+use Rattle.tables.specs.declared.TablesRead.the-variants as tables
+use Rattle.tables.specs.File.{startOf, tablesOf}
+use Rattle.tables.specs.Judged.{judgedTables}
+use Rattle.tables.specs.Good.{GoodFile}
+use Rattle.tables.specs.GoodLaws as tables-laws
+use Rattle.tables.specs.TablesLaws.{good-tables}
+use Rattle.timetable.specs.Numbers.{serviceOf, judgedOf, GoodNumbers}
+use Rattle.timetable.specs.NumbersLaws as numbers-laws
+use Rattle.timetable.specs.declared.Judged.{Judged}
+use Rattle.timetable.specs.declared.Judged.the-variants as numbers
+use Rattle.asks.specs.declared.Wanted.{Wanted}
+use Rattle.asks.specs.declared.Asked.{Asked}
+use Rattle.asks.specs.declared.AskRead.{AskRead}
+use Rattle.asks.specs.declared.AskRead.the-variants as ask
+use Rattle.asks.specs.Asks.{ifTables, askRead}
+use Rattle.asks.specs.AskLaws.{GoodAsk, ask-good}
+use Rattle.pieces.specs.Pieces.{Ready}
+use Rattle.opening.specs.Opening as opening
+use Rattle.rides.specs.declared.Listed.{Listed}
+use Rattle.rides.specs.declared.RidesAnswer.{RidesAnswer}
+use Rattle.rides.specs.declared.RidesAnswer.the-variants.{At, No}
+use Rattle.rides.specs.Lists.{ridesRoom, ifNumbers, ridesAsked, ListedAs, RefusedAs, no-journey, missing, short, Lists}
+
+-- ---- an ask that is not refused
+
+-- good tables and good numbers of one stop count, the working room, and two different stops
+pub record Asking (b : List ℕ) (stops count : ℕ) (runs : List ℕ) (lent : ℕ) (q : Asked) : Type 0 where
+  pub file : GoodFile b stops
+  pub numbers : GoodNumbers stops count runs
+  pub room : ridesRoom ≤ lent
+  pub good : GoodAsk stops q
+
+module _ (b : List ℕ) (stops count : ℕ) (runs : List ℕ) (lent from to : ℕ) (w : Wanted) (q : Asked) where
+  pub asked-good : ridesAsked b stops count runs lent from to w ≡ ask.Good q → Asking b stops count runs lent q
+  unfolding ridesAsked
+  asked-good e = go (judgedTables b) (judgedOf stops count runs lent ridesRoom) (tables-laws.judged-good b) (numbers-laws.judged-good stops count runs lent ridesRoom) e
+    where
+      go : (t : TablesRead) (j : Judged) → ((n : ℕ) → t ≡ tables.Good n → GoodFile b n) → (j ≡ numbers.Good → GoodNumbers stops count runs × (ridesRoom ≤ lent)) →
+          ifTables t (λ n. ifNumbers j (unless (eqb n stops) (ask.No (refusal stopsDiffer 0)) (askRead n from to w))) ≡ ask.Good q → Asking b stops count runs lent q
+      go (tables.No r) j f g h = let z : _≡_ {A = ℕ} 0 1 = cc in absurd (omega arith)
+      go (tables.Good n) (numbers.No r) f g h = let z : _≡_ {A = ℕ} 0 1 = cc in absurd (omega arith)
+      go (tables.Good n) numbers.Good f g h =
+          let s = stays (eqb n stops) h (λ x. let y : _≡_ {A = ℕ} 0 1 = cc in omega arith) in
+          let i = eqb-true n stops (s .0) in
+          record {
+            file = subst (GoodFile b) i (f n refl);
+            numbers = g refl .0;
+            room = g refl .1;
+            good = subst (λ m. GoodAsk m q) i (ask-good n from to w q (s .1));
+          }
+
+-- the starts that are written into the working room
+pub ready-of : {b : List ℕ} {n : ℕ} (room : List ℕ) {s : List ℕ} → GoodFile b n → 2 * n + 1 ≤ length room → s ≡ filled (startOf b) (2 * n + 1) room → Ready b n s
+ready-of {b} {n} room G h e = rw e (record {
+  file = G;
+  long = omega (arith, length-filled (startOf b) (2 * n + 1) room);
+  are = λ set le. filled-at (startOf b) (2 * n + 1) room set (omega arith) h;
+})
+
+-- ---- what is listed
+
+same-zeros : (l m : List ℕ) → length l ≡ length m → zeros l ≡ zeros m
+unfolding zeros
+same-zeros l m e = ap (λ (n : ℕ). replicate n 0) e
+
+module _ (S : Service) (T : Tables) (q : Asked) where
+  -- the number of rides is small
+  pub few-rides : GoodTables T → {d a : ℕ} {l : List ℕ} → Best (Sketch T (q .from) (q .to)) (q .criterion) d a → Chosen S T (q .from) (q .to) d a l → length l ≤ lastMinute
+  few-rides G {d} {a} B C = omega (arith, chosen-short G C, sketch-last G d a (B .has))
+
+  -- rides that fit, written over zeros
+  pub listed-of : {d a k : ℕ} {before after : List ℕ} → Best (Sketch T (q .from) (q .to)) (q .criterion) d a → before ≡ zeros before →
+      opening.Listed (Chosen S T (q .from) (q .to) d a) before after k → k ≤ length before → ListedAs S T q before after (record { dep = d; arr = a; rides = k })
+  listed-of {before = before} B z L h = record {
+    best = B;
+    rides = L .rides;
+    chosen = L .are;
+    count = L .count;
+    fits = omega (arith, L .count);
+    holds = L .holds ∙ ap (written (L .rides)) z ∙ written-zeros (L .rides) before (omega (arith, L .count));
+  }
+
+  -- only the length of the lent list counts
+  pub lists-over : (before zeroed after : List ℕ) (r : RidesAnswer) → zeroed ≡ zeros before → Lists S T (ask.Good q) zeroed after r → Lists S T (ask.Good q) before after r
+  lists-over before zeroed after (At j) e x =
+      let n : length zeroed ≡ length before = ap length e ∙ length-zeros before in
+      record {
+        best = x .best;
+        rides = x .rides;
+        chosen = x .chosen;
+        count = x .count;
+        fits = omega (arith, x .fits);
+        holds = x .holds ∙ ap (λ (m : ℕ). x .rides ++ replicate (m - length (x .rides)) 0) n;
+      }
+  lists-over before zeroed after (No r) e x =
+      let n : length zeroed ≡ length before = ap length e ∙ length-zeros before in
+      (subst (λ (m : ℕ). RefusedAs S T q m r) n (x .0), x .1 ∙ same-zeros zeroed before n)
+
+-- ---- no second answer and no second list meet the contract
+
+module _ (S : Service) (T : Tables) (q : Asked) (G : GoodTables T) where
+  abbrev Pair : ℕ → ℕ → Type 0
+  Pair d a = Best (Sketch T (q .from) (q .to)) (q .criterion) d a
+
+  -- the rides of the best pair are one list
+  one-list : {d a e b : ℕ} {l m : List ℕ} → Pair d a → Pair e b → Chosen S T (q .from) (q .to) d a l → Chosen S T (q .from) (q .to) e b m → l ≡ m
+  one-list {m = m} x y f g =
+      let s = best-one (q .criterion) y x in
+      chosen-one G f (subst₂ (λ d a. Chosen S T (q .from) (q .to) d a m) (s .0) (s .1) g)
+
+  same-listed : {d a e b k j : ℕ} → d ≡ e → a ≡ b → k ≡ j → _≡_ {A = Listed} (record { dep = d; arr = a; rides = k }) (record { dep = e; arr = b; rides = j })
+  same-listed e f g = cc
+
+  listed-one : (before x y : List ℕ) (j k : Listed) → ListedAs S T q before x j → ListedAs S T q before y k → (j ≡ k) × (x ≡ y)
+  listed-one before x y j k f g =
+      let s = best-one (q .criterion) (f .best) (g .best) in
+      let e = one-list (f .best) (g .best) (f .chosen) (g .chosen) in
+      (same-listed (s .0) (s .1) (f .count ∙ ap length e ∙ sym (g .count)), f .holds ∙ ap (λ l. l ++ replicate (length before - length l) 0) e ∙ sym (g .holds))
+
+  -- what is listed is not refused
+  not-both : (before after : List ℕ) (j : Listed) (r : Refusal) → ListedAs S T q before after j → ¬ (RefusedAs S T q (length before) r)
+  not-both before after j r f (no-journey e n) = best-not-nothing (q .criterion) (f .best) n
+  not-both before after j r f (missing e d a B n) =
+      let s = best-one (q .criterion) (f .best) B in
+      n (f .rides) (subst₂ (λ d a. Chosen S T (q .from) (q .to) d a (f .rides)) (s .0) (s .1) (f .chosen))
+  not-both before after j r f (short e d a B l C lt) = omega (arith, f .fits, ap length (one-list (f .best) B (f .chosen) C))
+
+  -- and one refusal is given
+  refused-one : (room : ℕ) (r s : Refusal) → RefusedAs S T q room r → RefusedAs S T q room s → r ≡ s
+  refused-one room r s (no-journey e n) (no-journey f m) = e ∙ sym f
+  refused-one room r s (no-journey e n) (missing f d a B m) = absurd (best-not-nothing (q .criterion) B n)
+  refused-one room r s (no-journey e n) (short f d a B l C lt) = absurd (best-not-nothing (q .criterion) B n)
+  refused-one room r s (missing e d a B n) (no-journey f m) = absurd (best-not-nothing (q .criterion) B m)
+  refused-one room r s (missing e d a B n) (missing f d′ a′ B′ m) = e ∙ sym f
+  refused-one room r s (missing e d a B n) (short f d′ a′ B′ l C lt) =
+      let z = best-one (q .criterion) B′ B in
+      absurd (n l (subst₂ (λ d a. Chosen S T (q .from) (q .to) d a l) (z .0) (z .1) C))
+  refused-one room r s (short e d a B l C lt) (no-journey f m) = absurd (best-not-nothing (q .criterion) B m)
+  refused-one room r s (short e d a B l C lt) (missing f d′ a′ B′ m) =
+      let z = best-one (q .criterion) B B′ in
+      absurd (m l (subst₂ (λ d a. Chosen S T (q .from) (q .to) d a l) (z .0) (z .1) C))
+  refused-one room r s (short e d a B l C lt) (short f d′ a′ B′ m C′ lt′) = e ∙ sym f
+
+  good-one : (before m n : List ℕ) (x y : RidesAnswer) → Lists S T (ask.Good q) before m x → Lists S T (ask.Good q) before n y → (x ≡ y) × (m ≡ n)
+  good-one before m n (At j) (At k) f g = let s = listed-one before m n j k f g in (ap At (s .0), s .1)
+  good-one before m n (At j) (No r) f g = absurd (not-both before m j r f (g .0))
+  good-one before m n (No r) (At k) f g = absurd (not-both before n k r g (f .0))
+  good-one before m n (No r) (No s) f g = (ap No (refused-one (length before) r s (f .0) (g .0)), f .1 ∙ sym (g .1))
+
+-- the contract determines the answer and the list, whatever is asked
+pub lists-one : (b : List ℕ) (stops count : ℕ) (runs : List ℕ) (lent from to : ℕ) (w : Wanted) (before m n : List ℕ) (x y : RidesAnswer) →
+    Lists (serviceOf stops count runs) (tablesOf b) (ridesAsked b stops count runs lent from to w) before m x →
+    Lists (serviceOf stops count runs) (tablesOf b) (ridesAsked b stops count runs lent from to w) before n y → (x ≡ y) × (m ≡ n)
+lists-one b stops count runs lent from to w before m n x y =
+    go (ridesAsked b stops count runs lent from to w) (λ q e. good-tables (asked-good b stops count runs lent from to w q e .file))
+  where
+    go : (a : AskRead) → ((q : Asked) → a ≡ ask.Good q → GoodTables (tablesOf b)) →
+        Lists (serviceOf stops count runs) (tablesOf b) a before m x → Lists (serviceOf stops count runs) (tablesOf b) a before n y → (x ≡ y) × (m ≡ n)
+    go (ask.No r) good f g = (f .0 ∙ sym (g .0), f .1 ∙ sym (g .1))
+    go (ask.Good q) good f g = good-one (serviceOf stops count runs) (tablesOf b) q (good q refl) before m n x y f g
