@@ -1,0 +1,111 @@
+-- Laws of the answers: a line prints one text; and every listed ride can be printed.
+use Prim.Native.Nat.{ℕ, zero, suc, _+_, _*_, _-_, _≤_, _<_}
+use mathlib.Core.Path.{_≡_, refl, sym, ap, ap₂, subst, _∙_}
+use mathlib.Core.List.{List, [], _∷_, _++_}
+use mathlib.Core.Bool.{Bool, true, false, cond}
+use native.Mathlib.Omega.{arith}
+use lib.ListN.{length, getD, replicate, length-append, List·getD-append}
+use lib.Dec.{eqb, leb}
+use borrow.Author.Tests.{leb-true}
+use Rattle.loops.specs.Chain.{past, stays}
+use Rattle.loops.specs.Every.{allB}
+use Rattle.kinds.specs.Limits.{mostCode, runNumbers, mostStops, runsRoom}
+use Rattle.kinds.specs.Kinds.{isCodeByte, isCodeLength}
+use Rattle.kinds.specs.KindsLaws.{GoodRun}
+use Rattle.kinds.specs.declared.Run.{Run}
+use Rattle.journeys.specs.Service.{Service, RideAt}
+use Rattle.journeys.specs.Journey.{Journey, one, more, rides, RidesOf}
+use Rattle.journeys.specs.RidesLaws.{chosen-journey}
+use Rattle.tables.specs.File.{tablesOf}
+use Rattle.timetable.specs.Numbers.{runAt, serviceOf, GoodRunAt}
+use Rattle.timetable.specs.NumbersLaws.{service-slots}
+use Rattle.words.specs.Words.{isCode}
+use Rattle.lookup.specs.Lookup.{startOf, lengthOf}
+use Rattle.reader.specs.TextLaws.{GoodRead}
+use Rattle.asks.specs.declared.AskRead.{AskRead}
+use Rattle.asks.specs.declared.AskRead.the-variants as ask
+use Rattle.rides.specs.declared.RidesAnswer.{RidesAnswer}
+use Rattle.rides.specs.declared.RidesAnswer.the-variants.{At, No}
+use Rattle.rides.specs.Lists.{ridesAsked, Lists}
+use Rattle.rides.specs.ListsLaws.{lists-one}
+use Rattle.askline.specs.declared.LineRead.{LineRead}
+use Rattle.askline.specs.declared.LineRead.the-variants as line
+use Rattle.printed.specs.Wrote.{CodeIn}
+use Rattle.answers.specs.Answers.{LineGets, ridesIn, codeAt, printedFor, PrintedAsk}
+
+-- ---- a line prints one text
+pub gets-one : (b : List ℕ) (stops count : ℕ) (runs : List ℕ) (lent : ℕ) (read : LineRead) (before m n : List ℕ) (x y : RidesAnswer) →
+    LineGets b stops count runs lent read before m x → LineGets b stops count runs lent read before n y → (x ≡ y) × (m ≡ n)
+gets-one b stops count runs lent (line.No k) before m n x y f g = (f .0 ∙ sym (g .0), f .1 ∙ sym (g .1))
+gets-one b stops count runs lent (line.Asked q) before m n x y f g = lists-one b stops count runs lent (q .from) (q .to) (q .wanted) before m n x y f g
+
+pub printed-one : {s codes b : List ℕ} {stops count : ℕ} {runs : List ℕ} {lent : ℕ} {read : LineRead} {before xs ys : List ℕ} →
+    PrintedAsk s codes b stops count runs lent read before xs → PrintedAsk s codes b stops count runs lent read before ys → xs ≡ ys
+printed-one {s} {codes} {b} {stops} {count} {runs} {lent} {read} {before} p q =
+    let z = gets-one b stops count runs lent read before (p .list) (q .list) (p .answer) (q .answer) (p .gets) (q .gets) in
+    p .is ∙ ap₂ (λ l x. printedFor s codes runs l x) (z .1) (z .0) ∙ sym (q .is)
+
+-- ---- every listed ride can be printed
+
+-- the code of stop j is in the list and stands in the text
+pub record Named (s codes : List ℕ) (j : ℕ) : Type 0 where
+  pub listed : 2 * j + 2 ≤ length codes
+  pub code : CodeIn s (codeAt codes j)
+
+-- ride k of the list is a good run, and its stops have codes
+pub record Ridden (s codes runs list : List ℕ) (k : ℕ) : Type 0 where
+  pub within : k < length list
+  pub run : GoodRunAt runs (getD list k 0)
+  pub from : Named s codes (runAt runs (getD list k 0) .from)
+  pub to : Named s codes (runAt runs (getD list k 0) .to)
+
+code-short : (s : List ℕ) (a n : ℕ) → isCode s a n ≡ true → n ≤ mostCode
+unfolding isCode isCodeLength
+code-short s a n h =
+    let z = stays (cond (eqb n 0) false (leb n mostCode)) h (λ x. let y : _≡_ {A = ℕ} 0 1 = cc in omega arith) in
+    leb-true n mostCode (past (eqb n 0) (z .0) (λ x. let y : _≡_ {A = ℕ} 0 1 = cc in omega arith) .1)
+
+-- each slot of a journey is one of the service
+below : {S : Service} {u v d a : ℕ} (j : Journey S u v d a) (k : ℕ) → k < length (rides j) → getD (rides j) k 0 < S .slots
+unfolding rides
+below (one i r) zero h = r .below
+below (one i r) (suc k) h = absurd (omega arith)
+below (more i r l j) zero h = r .below
+below (more i r l j) (suc k) h = below j k (omega arith)
+
+module _ {s : List ℕ} {roomR roomC stops count : ℕ} {runs codes : List ℕ} (g : GoodRead s roomR roomC stops count runs codes) where
+  pub named-all : (j : ℕ) → j < stops → Named s codes j
+  named-all j h =
+      record {
+        listed = omega (arith, g .placed .listed);
+        code = record { within = g .placed .placed j h; short = code-short s (startOf codes j) (lengthOf codes j) (g .coded j h) };
+      }
+
+  run-good : runsRoom ≤ roomR → (i : ℕ) → i < count → GoodRunAt runs i
+  run-good room i h = record { stops = stops; few = g .few; long = omega (arith, g .few-runs, g .numbers-long); good = g .good i h }
+
+  listed-below : (b : List ℕ) (a : AskRead) (before after : List ℕ) (x : RidesAnswer) → Lists (serviceOf stops count runs) (tablesOf b) a before after x →
+      (k : ℕ) → k < ridesIn x → (k < length after) × (getD after k 0 < count)
+  listed-below b (ask.No r) before after x f k h = absurd (omega (arith, ap ridesIn (f .0)))
+  listed-below b (ask.Good q) before after (No r) f k h = absurd (omega arith)
+  listed-below b (ask.Good q) before after (At j) f k h =
+      let w = chosen-journey (f .chosen) in
+      let l : k < length (f .rides) = omega (arith, f .count) in
+      let z : List ℕ = replicate (length before - length (f .rides)) 0 in
+      let e : getD after k 0 ≡ getD (f .rides) k 0 = rw (f .holds) (List·getD-append (f .rides) z 0 k l) in
+      let n : getD (f .rides) k 0 < count = rw (w .are, service-slots stops count runs) at (below (w .way) k (rw (w .are) l)) in
+      (omega (arith, ap length (f .holds), length-append (f .rides) z), omega arith)
+
+  pub ridden-all : runsRoom ≤ roomR → (b : List ℕ) (lent : ℕ) (read : LineRead) (before after : List ℕ) (x : RidesAnswer) →
+      LineGets b stops count runs lent read before after x → (k : ℕ) → k < ridesIn x → Ridden s codes runs after k
+  ridden-all room b lent (line.No n) before after x f k h = absurd (omega (arith, ap ridesIn (f .0)))
+  ridden-all room b lent (line.Asked q) before after x f k h =
+      let z = listed-below b (ridesAsked b stops count runs lent (q .from) (q .to) (q .wanted)) before after x f k h in
+      let i : ℕ = getD after k 0 in
+      let r = g .good i (z .1) in
+      record {
+        within = z .0;
+        run = run-good room i (z .1);
+        from = named-all (runAt runs i .from) (r .from-stop);
+        to = named-all (runAt runs i .to) (r .to-stop);
+      }
