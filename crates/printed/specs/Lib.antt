@@ -1,0 +1,5 @@
+pub mod Printed
+pub mod DecimalLaws
+pub mod Wrote
+pub mod WroteLaws
+pub mod ReadBack
