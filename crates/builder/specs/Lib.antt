@@ -9,3 +9,5 @@ pub mod WritingLaws
 pub mod TurnLaws
 pub mod Next
 pub mod NextLaws
+pub mod Contents
+pub mod ContentsLaws
