@@ -11,3 +11,5 @@ pub mod Next
 pub mod NextLaws
 pub mod Contents
 pub mod ContentsLaws
+pub mod Build
+pub mod BuildLaws
