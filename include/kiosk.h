@@ -31,6 +31,13 @@ void kiosk_late(const uint8_t *tables, size_t tables_length, uint32_t from, uint
  * Refuses 9, 10, 11, 12, 13, 14, 15 (t > t2), 16. */
 void kiosk_short(const uint8_t *tables, size_t tables_length, uint32_t from, uint32_t to, uint32_t t, uint32_t t2, uint32_t answer[4]);
 
+/* Builds the tables of the label rule. tables: lent for the file; answer {0, length, labels, 0}, and the file at the front of tables. work: at
+ * least kiosk_build_room() numbers, all zero afterwards. Refuses 8, 17, 5, 6, 7 (the run as place); 22 (more than 8,192 labels by the rule); 17 (the
+ * tables lent are shorter than the file; 50,174 bytes are always enough). */
+uint32_t kiosk_build_room(void);
+void kiosk_build(uint32_t stops, uint32_t run_count, const uint32_t *runs, size_t runs_length, uint8_t *tables, size_t tables_length,
+                 uint16_t *work, size_t work_length, uint32_t answer[4]);
+
 /* The check: whether these tables, whoever made them, give every ask this timetable's best. Answer {0, 0, 0, 0} where they are accepted.
  * Given numbers: stops, run_count, and FROM TO DEP ARR TRIP for each run. work: at least kiosk_check_room() numbers, all zero afterwards.
  * Refuses 9, 10, 11; 8, 17, 5, 6, 7 (the run as place); 21; 19 (the first unsupported label); 20 (the first run and stop with a gap). */

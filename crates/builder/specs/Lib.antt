@@ -7,3 +7,9 @@ pub mod PutLaws
 pub mod Writing
 pub mod WritingLaws
 pub mod TurnLaws
+pub mod Next
+pub mod NextLaws
+pub mod Contents
+pub mod ContentsLaws
+pub mod Build
+pub mod BuildLaws

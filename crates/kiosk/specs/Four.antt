@@ -8,6 +8,8 @@ use Rattle.verdict.specs.declared.Verdict.{Verdict}
 use Rattle.verdict.specs.declared.Verdict.the-variants as verdict
 use Rattle.rides.specs.declared.RidesAnswer.{RidesAnswer}
 use Rattle.rides.specs.declared.RidesAnswer.the-variants as rides
+use Rattle.builder.specs.declared.BuildAnswer.{BuildAnswer}
+use Rattle.builder.specs.declared.BuildAnswer.the-variants as build
 use Rattle.reader.specs.declared.ReadAnswer.{ReadAnswer}
 use Rattle.reader.specs.declared.ReadAnswer.the-variants as read
 
@@ -33,3 +35,8 @@ fourCheck (verdict.No r) = fourNo r
 unfoldable pub fourRides : RidesAnswer → List ℕ
 fourRides (rides.At j) = 0 ∷ j .dep ∷ j .arr ∷ j .rides ∷ []
 fourRides (rides.No r) = fourNo r
+
+-- [0, length, labels, 0]
+unfoldable pub fourBuild : BuildAnswer → List ℕ
+fourBuild (build.Built length labels) = 0 ∷ length ∷ labels ∷ 0 ∷ []
+fourBuild (build.No r) = fourNo r

@@ -1,6 +1,8 @@
 // What kiosk engineering links. Every name begins with kiosk_; all numbers are u32; `answer` is [0, ..] on success and
 // [number, place, stop, 0] on a refusal. include/kiosk.h says the same for C.
 use asks::Answer;
+use builder::BuildAnswer;
+use builder::Work;
 use reader::ReadAnswer;
 use rides::Listed;
 use rides::RidesAnswer;
@@ -19,7 +21,9 @@ ghost use Rattle.verdict.specs.declared.Verdict.{Verdict};
 ghost use Rattle.verdict.specs.Verdict.{checkRoom, Checked};
 ghost use Rattle.rides.specs.declared.RidesAnswer.{RidesAnswer};
 ghost use Rattle.rides.specs.Lists.{ridesRoom, ridesAsked, Lists};
-ghost use Rattle.kiosk.specs.Four.{fourAsk, fourRead, fourCheck, fourRides};
+ghost use Rattle.kiosk.specs.Four.{fourAsk, fourRead, fourCheck, fourRides, fourBuild};
+ghost use Rattle.builder.specs.declared.BuildAnswer.{BuildAnswer};
+ghost use Rattle.builder.specs.Build.{buildRoom, BuildOf};
 
 fn four_read(a: ReadAnswer) -> [u32; 4]
     ensures { λ r. ⌜ r ≡ fourRead a ⌝ }
@@ -208,4 +212,38 @@ pub extern "C" fn kiosk_short_rides(
 {
     let a = rides::short(tables, stops, run_count, runs, from, to, t, t2, list, work);
     *answer = four_rides(a);
+}
+
+fn four_build(a: BuildAnswer) -> [u32; 4]
+    ensures { λ r. ⌜ r ≡ fourBuild a ⌝ }
+{
+    match a {
+        BuildAnswer::Built(length, labels) => [0, length, labels, 0],
+        BuildAnswer::No(r) => [r.number, r.place, r.stop, 0],
+    }
+}
+
+// How many numbers of two bytes the build needs as working room.
+#[no_mangle]
+pub extern "C" fn kiosk_build_room() -> u32
+    ensures { λ r. ⌜ r ≡ buildRoom ⌝ }
+{
+    Work::ROOM as u32
+}
+
+// The tables of the label rule for a timetable's numbers: [0, length, labels, 0].
+#[no_mangle]
+pub extern "C" fn kiosk_build(
+    stops: u32,
+    run_count: u32,
+    runs: &[u32],
+    tables: &mut [u8],
+    work: &mut [u16],
+    answer: &mut [u32; 4],
+)
+    ensures { λ _. ⌜ ((x : BuildAnswer) × BuildOf stops «run_count» (now (runs .entry)) (length (now (work .entry))) (length (now (tables .entry))) x (now (tables .exit)) × (now (answer .exit) ≡ fourBuild x)) ⌝ }
+    ensures { λ _. ⌜ now (work .exit) ≡ zeros (now (work .entry)) ⌝ }
+{
+    let a = builder::build(stops, run_count, runs, tables, work);
+    *answer = four_build(a);
 }

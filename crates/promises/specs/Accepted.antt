@@ -40,7 +40,7 @@ use Rattle.rides.specs.Lists.{ridesAsked, Lists}
 use Rattle.rides.specs.AcceptedLaws.{accepted-lists}
 
 -- the two stops of a good ask are different
-asked-apart : (b : List ℕ) (from to : ℕ) (w : Wanted) (q : Asked) → asked b from to w ≡ ask.Good q → q .from ≢ q .to
+pub asked-apart : (b : List ℕ) (from to : ℕ) (w : Wanted) (q : Asked) → asked b from to w ≡ ask.Good q → q .from ≢ q .to
 unfolding asked
 asked-apart b from to w q e = go (judgedTables b) e
   where
@@ -50,7 +50,7 @@ asked-apart b from to w q e = go (judgedTables b) e
 
 -- over accepted tables what the asks answer is the timetable's
 module _ {S : Service} (G : GoodService S) {T : Tables} (good : GoodTables T) (same : T .stops ≡ S .stops) (ok : the.Accepted S T) where
-  truly : (k : AskRead) (x : Answer) → ((q : Asked) → k ≡ ask.Good q → q .from ≢ q .to) → Answers T k x → TimetableAnswers S k x
+  pub truly : (k : AskRead) (x : Answer) → ((q : Asked) → k ≡ ask.Good q → q .from ≢ q .to) → Answers T k x → TimetableAnswers S k x
   truly (ask.No r) x apart f = f
   truly (ask.Good q) (At j) apart f = accepted-best G good same ok (apart q refl) (q .criterion) (j .dep) (j .arr) .0 f
   truly (ask.Good q) (No r) apart f = (f .0, accepted-nothing G good same ok (apart q refl) (q .criterion) .0 (f .1))

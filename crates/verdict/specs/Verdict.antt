@@ -34,7 +34,7 @@ judgedBoth (tables.Good n) numbers.Good stops = unless (eqb n stops) (tables.No 
 abbrev pub gapRefusal : ℕ → ℕ → Refusal
 gapRefusal i v = record { number = gap; place = i; stop = v }
 
--- "then 19, 20": "The tables are accepted exactly when every label is supported and no run has a gap. The first failure ends the search, labels
+-- "19, 20": "The tables are accepted exactly when every label is supported and no run has a gap. The first failure ends the search, labels
 -- first, then runs by number and, within a run, stops by number."
 pub data Outcome (S : Service) (T : Tables) (r : Verdict) : Type 0 where
   unsupported-at : (k : ℕ) → the.UnsupportedFirst S T k → r ≡ No (refusal unsupported k) → Outcome S T r
