@@ -13,6 +13,7 @@
 mod asks;
 mod build;
 mod check;
+mod hubs;
 mod journey;
 mod numbers;
 mod read;
@@ -22,6 +23,7 @@ mod tables;
 pub use asks::{early, late, short};
 pub use build::{build, BUILD_ROOM};
 pub use check::{check, CHECK_ROOM};
+pub use hubs::{labels_by_hubs, Found};
 pub use journey::journey;
 pub use read::{read, read_by_scan};
 pub use rides::{early_rides, late_rides, short_rides, RIDES_ROOM};

@@ -7,46 +7,38 @@
 
 mod measure;
 mod ours;
+mod report;
 
 use generate::asks::{self, Ask, Kind, KINDS};
 use generate::days::{self, Day};
 use generate::tables::{self, Sets};
 use generate::{example, texts, Rng};
 use measure::{row, Row};
+use report::Growth;
 use std::hint::black_box;
 
 const TABLES: usize = 2 + 4 * 255 + 6 * 8_192;
 const LIST: usize = 2_880;
 
-fn main() {
+/// Prints the ratios; with the argument `write` also docs/BENCH.md and its plot.
+fn main() -> std::io::Result<()> {
     println!("microseconds a call; ratio is ours by plain");
-    println!("{:<12} {:<44} {:>12} {:>12} {:>7}", "call", "input", "ours", "plain", "ratio");
+    println!("{:<14} {:<44} {:>12} {:>12} {:>7}", "call", "input", "ours", "plain", "ratio");
     let mut rows = Vec::new();
     reads(&mut rows);
     builds(&mut rows);
     checks(&mut rows);
     asked(&mut rows);
     rides(&mut rows);
-    summary(&rows);
-}
-
-/// The worst and the middle ratio of each call.
-fn summary(rows: &[Row]) {
-    let mut entries: Vec<&str> = Vec::new();
-    for row in rows {
-        if !entries.contains(&row.entry) {
-            entries.push(row.entry);
-        }
+    let growth: Vec<Growth> = [512, 1_024, 2_048, 4_096].into_iter().map(growth).collect();
+    for (entry, middle, worst) in report::ratios(&rows) {
+        println!("{entry}: middle ratio {middle:.2}, worst ratio {worst:.2}");
     }
-    for entry in entries {
-        let mut ratios: Vec<f64> =
-            rows.iter().filter(|row| row.entry == entry).filter_map(Row::ratio).collect();
-        ratios.sort_by(f64::total_cmp);
-        if let Some(worst) = ratios.last() {
-            let middle = ratios[ratios.len() / 2];
-            println!("{entry}: middle ratio {middle:.2}, worst ratio {worst:.2}");
-        }
+    if std::env::args().any(|word| word == "write") {
+        std::fs::write("docs/BENCH.md", report::markdown(&rows, &growth))?;
+        std::fs::write("docs/growth.svg", report::picture(&growth))?;
     }
+    Ok(())
 }
 
 fn reads(rows: &mut Vec<Row>) {
@@ -57,6 +49,7 @@ fn reads(rows: &mut Vec<Row>) {
         ("T", example::T.to_vec()),
         ("city, short codes", texts::text(&city, &short_codes)),
         ("255 codes of 64 bytes, 4,096 runs", texts::greatest_good(&mut rng)),
+        ("255 codes of 64 bytes made for one bucket", texts::text(&city, &texts::codes_of_one_bucket())),
         ("1,048,576 bytes, refused at the last line", texts::filled_to(&mut rng, 1_048_576)),
     ];
     for (name, text) in &inputs {
@@ -100,28 +93,61 @@ fn days_to_build() -> Vec<(String, Day)> {
 
 fn builds(rows: &mut Vec<Row>) {
     for (name, day) in days_to_build() {
+        rows.push(build_row(name.clone(), &day));
         let runs = day.numbers();
         let (mut tables, mut answer) = (vec![1; TABLES], [1; 4]);
-        let (mut our_tables, mut our_answer) = (vec![1; TABLES], [1; 4]);
-        let mut work = vec![1; plain::BUILD_ROOM];
-        let mut our_work = vec![1; ours::build_room()];
-        let (stops, count) = (day.stops, day.run_count());
-        plain::build(stops, count, &runs, &mut tables, &mut work, &mut answer);
-        let linked = ours::build(&day, &runs, &mut our_tables, &mut our_work, &mut our_answer);
-        if linked {
-            assert_eq!(our_answer, answer, "{name}");
-            assert!(our_tables == tables, "{name}");
-        }
+        let mut work = vec![1; ours::build_room()];
         let mut ours = || {
-            let runs = black_box(&runs);
-            ours::build(&day, runs, &mut our_tables, &mut our_work, &mut our_answer);
+            ours::build(&day, black_box(&runs), &mut tables, &mut work, &mut answer);
         };
-        let plain = &mut || {
-            let runs = black_box(&runs);
-            plain::build(stops, count, runs, &mut tables, &mut work, &mut answer);
-        };
-        rows.push(row("build", name, plain, linked.then_some(&mut ours)));
+        let by_hubs = &mut by_hubs(&day);
+        if !name.ends_with("refused") {
+            let linked = cfg!(feature = "build").then_some(&mut ours as &mut dyn FnMut());
+            rows.push(row("build, by hubs", name, by_hubs, linked));
+        }
     }
+}
+
+/// The pruned search by hubs over a day.
+fn by_hubs(day: &Day) -> impl FnMut() {
+    let (stops, runs) = (day.stops as usize, day.numbers());
+    move || {
+        black_box(plain::labels_by_hubs(stops, black_box(&runs)));
+    }
+}
+
+fn build_row(name: String, day: &Day) -> Row {
+    let runs = day.numbers();
+    let (mut tables, mut answer) = (vec![1; TABLES], [1; 4]);
+    let (mut our_tables, mut our_answer) = (vec![1; TABLES], [1; 4]);
+    let mut work = vec![1; plain::BUILD_ROOM];
+    let mut our_work = vec![1; ours::build_room()];
+    let (stops, count) = (day.stops, day.run_count());
+    plain::build(stops, count, &runs, &mut tables, &mut work, &mut answer);
+    let linked = ours::build(day, &runs, &mut our_tables, &mut our_work, &mut our_answer);
+    if linked {
+        assert_eq!(our_answer, answer, "{name}");
+        assert!(our_tables == tables, "{name}");
+    }
+    let mut ours = || {
+        let runs = black_box(&runs);
+        ours::build(day, runs, &mut our_tables, &mut our_work, &mut our_answer);
+    };
+    let plain = &mut || {
+        let runs = black_box(&runs);
+        plain::build(stops, count, runs, &mut tables, &mut work, &mut answer);
+    };
+    row("build", name, plain, linked.then_some(&mut ours))
+}
+
+/// Build and check of the city with so many runs.
+fn growth(runs: u32) -> Growth {
+    let day = days::city_of(&mut Rng::new(7), runs);
+    let name = format!("city with {runs} runs");
+    let build = build_row(name.clone(), &day);
+    let by_hubs = row("build, by hubs", name.clone(), &mut by_hubs(&day), None).plain;
+    let check = check_row(name, own(&day), &day);
+    Growth { runs, build, by_hubs, check }
 }
 
 /// The tables of a day, built by plain.
@@ -155,22 +181,26 @@ fn checks(rows: &mut Vec<Row>) {
     let (bytes, day) = with_runs(tables::star(4_096));
     inputs.push(("4,096 labels in a star, 4,096 runs".into(), bytes, day));
     for (name, bytes, day) in inputs {
-        let runs = day.numbers();
-        let (mut answer, mut our_answer) = ([1; 4], [1; 4]);
-        let mut work = vec![1; plain::CHECK_ROOM];
-        let mut our_work = vec![1; ours::check_room()];
-        let (stops, count) = (day.stops, day.run_count());
-        plain::check(&bytes, stops, count, &runs, &mut work, &mut answer);
-        let linked = ours::check(&bytes, &day, &runs, &mut our_work, &mut our_answer);
-        assert!(!linked || our_answer == answer, "{name}");
-        let mut ours = || {
-            ours::check(black_box(&bytes), &day, &runs, &mut our_work, &mut our_answer);
-        };
-        let plain = &mut || {
-            plain::check(black_box(&bytes), stops, count, &runs, &mut work, &mut answer);
-        };
-        rows.push(row("check", name, plain, linked.then_some(&mut ours)));
+        rows.push(check_row(name, bytes, &day));
     }
+}
+
+fn check_row(name: String, bytes: Vec<u8>, day: &Day) -> Row {
+    let runs = day.numbers();
+    let (mut answer, mut our_answer) = ([1; 4], [1; 4]);
+    let mut work = vec![1; plain::CHECK_ROOM];
+    let mut our_work = vec![1; ours::check_room()];
+    let (stops, count) = (day.stops, day.run_count());
+    plain::check(&bytes, stops, count, &runs, &mut work, &mut answer);
+    let linked = ours::check(&bytes, day, &runs, &mut our_work, &mut our_answer);
+    assert!(!linked || our_answer == answer, "{name}");
+    let mut ours = || {
+        ours::check(black_box(&bytes), day, &runs, &mut our_work, &mut our_answer);
+    };
+    let plain = &mut || {
+        plain::check(black_box(&bytes), stops, count, &runs, &mut work, &mut answer);
+    };
+    row("check", name, plain, linked.then_some(&mut ours))
 }
 
 fn plain_ask(tables: &[u8], ask: Ask, answer: &mut [u32; 4]) {

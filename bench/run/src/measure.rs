@@ -26,9 +26,9 @@ impl Row {
         match (self.ours, self.ratio()) {
             (Some(ours), Some(ratio)) => {
                 let ours = 1e6 * ours;
-                println!("{entry:<12} {input:<44} {ours:>12.2} {plain:>12.2} {ratio:>7.2}");
+                println!("{entry:<14} {input:<44} {ours:>12.2} {plain:>12.2} {ratio:>7.2}");
             }
-            _ => println!("{entry:<12} {input:<44} {:>12} {plain:>12.2} {:>7}", "-", "-"),
+            _ => println!("{entry:<14} {input:<44} {:>12} {plain:>12.2} {:>7}", "-", "-"),
         }
     }
 }

@@ -194,11 +194,18 @@ pub fn fullest() -> Day {
 /// A city of 255 stops and up to 4,096 runs that keeps within 8,192 labels: 127
 /// lines of two stops each run to the hub, stop 0, and back, all day.
 pub fn city(rng: &mut Rng) -> Day {
+    city_of(rng, 4_096)
+}
+
+/// The same city with so many runs, 512 or more: the trips of each line are then
+/// fewer and further apart.
+pub fn city_of(rng: &mut Rng, count: u32) -> Day {
+    let trips = count / 508;
     let mut runs = Vec::new();
     for line in 0..127 {
         let (near, far) = (1 + line, 128 + line);
-        for trip in 0..8 {
-            let dep = 300 * trip + rng.below(60);
+        for trip in 0..trips {
+            let dep = 2_400 / trips * trip + rng.below(60);
             let (a, b) = (rng.between(4, 20), rng.between(4, 20));
             runs.push([far, near, dep, dep + a, 1 + line]);
             runs.push([near, 0, dep + a, dep + a + b, 1 + line]);
@@ -207,7 +214,7 @@ pub fn city(rng: &mut Rng) -> Day {
             runs.push([near, far, back + b, back + b + a, 1 + line]);
         }
     }
-    while runs.len() < 4_096 {
+    while runs.len() < count as usize {
         let dep = rng.below(2_800);
         let line = rng.below(127);
         runs.push([1 + line, 128 + line, dep, dep + rng.between(1, 30), 1 + line]);
