@@ -26,15 +26,15 @@ use Rattle.asks.specs.declared.MinutesRead.the-variants as minutes
 use Rattle.asks.specs.declared.Journey.{Journey}
 use Rattle.asks.specs.declared.Answer.{Answer}
 use Rattle.asks.specs.declared.Answer.the-variants.{At, No}
-use Rattle.asks.specs.Asks.{ifStop, ifMinutes, minutesRead, askRead, Answers}
+use Rattle.asks.specs.Asks.{ifStop, ifMinutes, minutesRead, askRead, AnswersBy}
 
 -- the contract determines the answer
-pub answers-one : (T : Tables) (q : AskRead) (x y : Answer) → Answers T q x → Answers T q y → x ≡ y
-answers-one T (ask.No r) x y e f = e ∙ sym f
-answers-one T (ask.Good q) (At j) (At k) e f = let s = best-one (q .criterion) e f in ap₂ (λ x y. At (record { dep = x; arr = y })) (s .0) (s .1)
-answers-one T (ask.Good q) (At j) (No r) e f = absurd (best-not-nothing (q .criterion) e (f .1))
-answers-one T (ask.Good q) (No r) (At k) e f = absurd (best-not-nothing (q .criterion) f (e .1))
-answers-one T (ask.Good q) (No r) (No s) e f = ap No (e .0 ∙ sym (f .0))
+pub answers-one : (P : ℕ → ℕ → ℕ → ℕ → Type 0) (q : AskRead) (x y : Answer) → AnswersBy P q x → AnswersBy P q y → x ≡ y
+answers-one P (ask.No r) x y e f = e ∙ sym f
+answers-one P (ask.Good q) (At j) (At k) e f = let s = best-one (q .criterion) e f in ap₂ (λ x y. At (record { dep = x; arr = y })) (s .0) (s .1)
+answers-one P (ask.Good q) (At j) (No r) e f = absurd (best-not-nothing (q .criterion) e (f .1))
+answers-one P (ask.Good q) (No r) (At k) e f = absurd (best-not-nothing (q .criterion) f (e .1))
+answers-one P (ask.Good q) (No r) (No s) e f = ap No (e .0 ∙ sym (f .0))
 
 -- a good ask has two different stops of the tables
 pub record GoodAsk (n : ℕ) (q : Asked) : Type 0 where

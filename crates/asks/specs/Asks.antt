@@ -60,8 +60,12 @@ ifTables (tables.No r) f = ask.No r
 unfoldable pub asked : List ℕ → ℕ → ℕ → Wanted → AskRead
 asked b from to w = ifTables (judgedTables b) (λ n. askRead n from to w)
 
+-- the best by the ask's criterion among the pairs of P, or 16 where none of them fits; what is out of order is refused
+abbrev pub AnswersBy : (ℕ → ℕ → ℕ → ℕ → Type 0) → AskRead → Answer → Type 0
+AnswersBy P (ask.No r) x = x ≡ No r
+AnswersBy P (ask.Good q) (At j) = Best (P (q .from) (q .to)) (q .criterion) (j .dep) (j .arr)
+AnswersBy P (ask.Good q) (No r) = (r ≡ refusal noJourney 0) × Nothing (P (q .from) (q .to)) (q .criterion)
+
 -- "The answer over the tables is the best sketch by the rules above", or 16 where there is none
 abbrev pub Answers : Tables → AskRead → Answer → Type 0
-Answers T (ask.No r) x = x ≡ No r
-Answers T (ask.Good q) (At j) = Best (Sketch T (q .from) (q .to)) (q .criterion) (j .dep) (j .arr)
-Answers T (ask.Good q) (No r) = (r ≡ refusal noJourney 0) × Nothing (Sketch T (q .from) (q .to)) (q .criterion)
+Answers T q x = AnswersBy (Sketch T) q x

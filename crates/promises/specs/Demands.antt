@@ -2,16 +2,14 @@
 use Prim.Native.Nat.{ℕ}
 use mathlib.Core.Path.{_≡_}
 use mathlib.Core.List.{List}
-use Rattle.kinds.specs.Refusals.{noJourney, refusal}
 use Rattle.journeys.specs.Service.{Service}
 use Rattle.journeys.specs.Journey.{Journey}
-use Rattle.journeys.specs.Criteria.{Best, Nothing}
 use Rattle.asks.specs.declared.AskRead.{AskRead}
 use Rattle.asks.specs.declared.AskRead.the-variants as ask
 use Rattle.asks.specs.declared.Wanted.{Wanted}
 use Rattle.asks.specs.declared.Answer.{Answer}
-use Rattle.asks.specs.declared.Answer.the-variants.{At, No}
-use Rattle.asks.specs.Asks.{asked}
+use Rattle.asks.specs.declared.Answer.the-variants.{No}
+use Rattle.asks.specs.Asks.{AnswersBy, asked}
 use Rattle.verdict.specs.declared.Verdict.{Verdict}
 use Rattle.verdict.specs.declared.Verdict.the-variants as verdict
 use Rattle.timetable.specs.Numbers.{serviceOf}
@@ -24,9 +22,7 @@ use Rattle.rides.specs.Accepted.{TrulyLists}
 
 -- "every ask gets the timetable's best": the best among all journeys, or 16 exactly when there is none; what is out of order is refused as it must be
 abbrev pub TimetableAnswers : Service → AskRead → Answer → Type 0
-TimetableAnswers S (ask.No r) x = x ≡ No r
-TimetableAnswers S (ask.Good q) (At j) = Best (Journey S (q .from) (q .to)) (q .criterion) (j .dep) (j .arr)
-TimetableAnswers S (ask.Good q) (No r) = (r ≡ refusal noJourney 0) × Nothing (Journey S (q .from) (q .to)) (q .criterion)
+TimetableAnswers S q x = AnswersBy (Journey S) q x
 
 -- tables are checked first; only what the check accepts is asked
 abbrev pub AfterCheck : Verdict → Service → AskRead → Answer → Type 0

@@ -1,3 +1,4 @@
 pub mod Demands
 pub mod Accepted
 pub mod Built
+pub mod DemandsLaws
