@@ -97,7 +97,7 @@ module _ (b : List ℕ) (stops count : ℕ) (list : List ℕ) (lent from to : �
   after-refused {r} e = record { verdict = verdict.No r; checked = subst (Checked b stops count list lent) e c; answer = refl }
 
 -- Demand 3 for asks with rides
-lists-truly : (b : List ℕ) (stops count : ℕ) (list : List ℕ) (lent from to : ℕ) (w : Wanted) → the.Accepted (serviceOf stops count list) (tablesOf b) →
+pub lists-truly : (b : List ℕ) (stops count : ℕ) (list : List ℕ) (lent from to : ℕ) (w : Wanted) → the.Accepted (serviceOf stops count list) (tablesOf b) →
     (k : AskRead) → ridesAsked b stops count list lent from to w ≡ k → (before after : List ℕ) (x : RidesAnswer) →
     Lists (serviceOf stops count list) (tablesOf b) k before after x → TimetableLists (serviceOf stops count list) k before after x
 lists-truly b stops count list lent from to w ok (ask.No r) e before after x f = f

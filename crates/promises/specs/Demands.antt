@@ -1,5 +1,5 @@
 -- Demands 2 and 3 in terms of the timetable: what an ask gets, said of journeys only.
-use Prim.Native.Nat.{ℕ}
+use Prim.Native.Nat.{ℕ, _≤_}
 use mathlib.Core.Path.{_≡_}
 use mathlib.Core.List.{List}
 use Rattle.journeys.specs.Service.{Service}
@@ -9,15 +9,19 @@ use Rattle.asks.specs.declared.AskRead.the-variants as ask
 use Rattle.asks.specs.declared.Wanted.{Wanted}
 use Rattle.asks.specs.declared.Answer.{Answer}
 use Rattle.asks.specs.declared.Answer.the-variants.{No}
-use Rattle.asks.specs.Asks.{AnswersBy, asked}
+use Rattle.asks.specs.Asks.{askRead, asked, AnswersBy, Answers}
 use Rattle.verdict.specs.declared.Verdict.{Verdict}
 use Rattle.verdict.specs.declared.Verdict.the-variants as verdict
 use Rattle.timetable.specs.Numbers.{serviceOf}
-use Rattle.verdict.specs.Verdict.{Checked}
+use Rattle.verdict.specs.Verdict.{checkRoom, Checked}
 use Rattle.loops.specs.Zero.{zeros}
 use Rattle.rides.specs.declared.RidesAnswer.{RidesAnswer}
 use Rattle.rides.specs.declared.RidesAnswer.the-variants as rides
-use Rattle.rides.specs.Lists.{ridesAsked}
+use Rattle.tables.specs.File.{tablesOf}
+use Rattle.builder.specs.declared.BuildAnswer.{BuildAnswer}
+use Rattle.builder.specs.declared.BuildAnswer.the-variants as build
+use Rattle.builder.specs.Build.{BuildOf}
+use Rattle.rides.specs.Lists.{ridesRoom, ridesAsked, Lists}
 use Rattle.rides.specs.Accepted.{TrulyLists}
 
 -- "every ask gets the timetable's best": the best among all journeys, or 16 exactly when there is none; what is out of order is refused as it must be
@@ -48,3 +52,31 @@ pub record CheckedRides (b : List ℕ) (stops count : ℕ) (list : List ℕ) (le
   pub verdict : Verdict
   pub checked : Checked b stops count list lent verdict
   pub answer : AfterCheckLists verdict (serviceOf stops count list) (ridesAsked b stops count list lent from to w) before after x
+
+-- Demand 2, of a file: the check accepts it; and over it every ask, with and without rides, gets the timetable's best. Which asks are out of
+-- order is said by the stop count alone.
+pub record Serves (stops count : ℕ) (list file : List ℕ) : Type 0 where
+  pub accepted : (lent : ℕ) → checkRoom ≤ lent → (r : Verdict) → Checked file stops count list lent r → r ≡ verdict.Accepted
+  pub asks : (from to : ℕ) (w : Wanted) (x : Answer) → Answers (tablesOf file) (asked file from to w) x → TimetableAnswers (serviceOf stops count list) (askRead stops from to w) x
+  pub rides : (lent from to : ℕ) (w : Wanted) (before after : List ℕ) (x : RidesAnswer) → ridesRoom ≤ lent →
+      Lists (serviceOf stops count list) (tablesOf file) (ridesAsked file stops count list lent from to w) before after x →
+      TimetableLists (serviceOf stops count list) (askRead stops from to w) before after x
+
+-- Demand 2 as calls: the builder writes the tables, and these are asked. What the builder refuses is refused.
+abbrev pub AfterBuild : BuildAnswer → Service → AskRead → Answer → Type 0
+AfterBuild (build.Built length labels) S q x = TimetableAnswers S q x
+AfterBuild (build.No r) S q x = x ≡ No r
+
+pub record BuiltAsk (stops count : ℕ) (list : List ℕ) (work lent from to : ℕ) (w : Wanted) (tables : List ℕ) (x : Answer) : Type 0 where
+  pub answer : BuildAnswer
+  pub built : BuildOf stops count list work lent answer tables
+  pub asked : AfterBuild answer (serviceOf stops count list) (askRead stops from to w) x
+
+abbrev pub AfterBuildLists : BuildAnswer → Service → AskRead → List ℕ → List ℕ → RidesAnswer → Type 0
+AfterBuildLists (build.Built length labels) S q before after x = TimetableLists S q before after x
+AfterBuildLists (build.No r) S q before after x = (x ≡ rides.No r) × (after ≡ zeros before)
+
+pub record BuiltRides (stops count : ℕ) (list : List ℕ) (work lent from to : ℕ) (w : Wanted) (tables before after : List ℕ) (x : RidesAnswer) : Type 0 where
+  pub answer : BuildAnswer
+  pub built : BuildOf stops count list work lent answer tables
+  pub asked : AfterBuildLists answer (serviceOf stops count list) (askRead stops from to w) before after x

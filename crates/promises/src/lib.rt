@@ -1,12 +1,14 @@
-// Demand 3 as functions: tables from anyone are checked, and only then asked. Their contracts speak of the timetable's journeys only.
+// Demands 2 and 3 as functions: tables of the builder are asked; tables from anyone are checked, and only then asked. Their contracts speak of
+// the timetable's journeys only.
 use asks::Answer;
 use asks::Wanted;
+use builder::BuildAnswer;
 use rides::RidesAnswer;
 use verdict::Verdict;
 ghost use mathlib.Core.Path.{_≡_};
 ghost use lib.ListN.{length};
 ghost use Rattle.loops.specs.Zero.{zeros};
-ghost use Rattle.promises.specs.Demands.{CheckedAsk, CheckedRides};
+ghost use Rattle.promises.specs.Demands.{CheckedAsk, CheckedRides, BuiltAsk, BuiltRides};
 
 // Any ask of tables that the check accepts against the timetable; else the check's refusal.
 pub fn checked_ask(
@@ -58,6 +60,67 @@ pub fn checked_rides(
             work,
         ),
         Verdict::No(r) => {
+            loops::zero_u32(list);
+            RidesAnswer::No(r)
+        }
+    }
+}
+
+// Any ask of the tables that the builder writes of the timetable; else the builder's refusal.
+pub fn built_ask(
+    stops: u32,
+    run_count: u32,
+    runs: &[u32],
+    from: u32,
+    to: u32,
+    w: Wanted,
+    tables: &mut [u8],
+    work: &mut [u16],
+) -> Answer
+    ensures { λ r. ⌜ BuiltAsk stops «run_count» (now (runs .entry)) (length (now (work .entry))) (length (now (tables .entry))) from to w (now (tables .exit)) r ⌝ }
+    ensures { λ _. ⌜ now (work .exit) ≡ zeros (now (work .entry)) ⌝ }
+{
+    let answer = builder::build(stops, run_count, runs, tables, work);
+    match answer {
+        BuildAnswer::Built(length, _labels) => asks::answered(
+            &tables[..length as usize],
+            from,
+            to,
+            w,
+        ),
+        BuildAnswer::No(r) => Answer::No(r),
+    }
+}
+
+// The same with the rides. The builder's working room serves the ask as well: it needs less.
+pub fn built_rides(
+    stops: u32,
+    run_count: u32,
+    runs: &[u32],
+    from: u32,
+    to: u32,
+    w: Wanted,
+    list: &mut [u32],
+    tables: &mut [u8],
+    work: &mut [u16],
+) -> RidesAnswer
+    ensures { λ r. ⌜ BuiltRides stops «run_count» (now (runs .entry)) (length (now (work .entry))) (length (now (tables .entry))) from to w (now (tables .exit)) (now (list .entry)) (now (list .exit)) r ⌝ }
+    ensures { λ _. ⌜ now (work .exit) ≡ zeros (now (work .entry)) ⌝ }
+{
+    let answer = builder::build(stops, run_count, runs, tables, work);
+    match answer {
+        BuildAnswer::Built(length, _labels) => rides::answered(
+            &tables[..length as usize],
+            stops,
+            run_count,
+            runs,
+            from,
+            to,
+            w,
+            list,
+            work,
+        ),
+        BuildAnswer::No(r) => {
             loops::zero_u32(list);
             RidesAnswer::No(r)
         }

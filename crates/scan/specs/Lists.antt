@@ -3,9 +3,10 @@ use Prim.Native.Nat.{ℕ, _+_, _*_, _≤_, _<_}
 use mathlib.Core.List.{List}
 use lib.ListN.{length, getD}
 use mathlib.Core.Path.{_≡_}
-use Rattle.kinds.specs.Limits.{mostStops, mostRuns, noPivot}
+use Rattle.kinds.specs.Limits.{mostStops, noPivot}
+use Rattle.scan.specs.Events.{slotOf}
 use Rattle.scan.specs.Scan.{unreached, notBoarded, Kept}
-use Rattle.scan.specs.Ordered.{Events}
+use Rattle.scan.specs.Ordered.{read, Events}
 use Rattle.scan.specs.declared.Cell.{Cell}
 
 -- four numbers a stop
@@ -31,11 +32,11 @@ cellsOf l x =
 abbrev pub keptOf : List ℕ → List ℕ → Kept
 keptOf lows cells = record { lows = lowsOf lows; cells = cellsOf cells }
 
--- what a scan asks: the events are of good runs, and there is room for what is kept of all rides and stops
+-- what a scan asks: the events are of good runs, and there is room for what is kept of their rides and of all stops
 pub record Scannable (list order : List ℕ) (start n u : ℕ) (lows cells : List ℕ) : Type 0 where
   pub within : start ≤ n
   pub fits : n ≤ length order
   pub events : Events list order n
   pub stop : u < mostStops
-  pub rides : mostRuns ≤ length lows
+  pub rides : (p : ℕ) → p < n → slotOf (read order p) < length lows
   pub stops : length cells ≡ cellsRoom

@@ -32,10 +32,13 @@ unfoldable pub boarded : ℕ → ℕ → Cell → ℕ
 boarded u x c = cond (eqb x u) noPivot (cond (eqb (c .at) unreached) notBoarded (min (c .low) x))
 
 -- a ride arrives at minute m, with the lowest stop l between: at its stop, of which c is kept
+abbrev pub changesWith : ℕ → Cell → ℕ
+changesWith l c = cond (eqb l noPivot) 0 (c .changes)
+
 unfoldable pub landed : ℕ → ℕ → Cell → Cell
 landed m l c =
     cond (ltb (c .at) m) (record { at = c .at; low = min (c .low) l; via = c .via; changes = c .changes })
-    (record { at = m; low = min (c .low) l; via = min (c .via) l; changes = cond (eqb l noPivot) 0 (c .changes) })
+    (record { at = m; low = min (c .low) l; via = min (c .via) l; changes = changesWith l c })
 
 unfoldable pub departs : Ride → ℕ → ℕ → Kept → Kept
 departs r u i k = record { lows = update (k .lows) i (boarded u (r .from) (k .cells (r .from))); cells = k .cells }

@@ -1,0 +1,96 @@
+use native.Mathlib.Omega.{arith}
+use mathlib.Core.Path.{sym, ap, _∙_}
+use lib.ListN.{length}
+use lib.Seq.{length-take-le}
+use Rattle.loops.specs.Zero.{zeros}
+use Rattle.loops.specs.ZeroLaws.{length-zeros}
+use Rattle.promises.specs.Accepted.{zeros-again}
+use Rattle.promises.specs.Built.{wrote, rides-built, rides-refused}
+use borrow.Author.Needs.{needs}
+use Rattle.promises.proofs.built_rides.Statement.{statement}
+use Rattle.promises.proofs.built_rides.Tie as tie
+use Rattle.promises.proofs.built_rides.Reads as reads
+use Rattle.promises.proofs.built_rides.Lts as lts
+use Rattle.builder.proofs.build.Reads as build-reads
+use Rattle.loops.proofs.zero_u32.Reads as zero-u32-reads
+use Rattle.rides.proofs.answered.Reads as answered-reads
+
+build-requires : tie.Need-build-requires
+build-requires c κs = search needs
+
+enum-known-answer : tie.Need-enum-known-answer
+enum-known-answer c = search needs
+
+cast-answered : tie.Need-cast-answered
+cast-answered c = search needs
+
+slice-reshare-prefix-answered : tie.Need-slice-reshare-prefix-answered
+slice-reshare-prefix-answered c =
+    let b = c .before .before .before .before .before .before .before .build in
+    let e = wrote _ _ _ _ _ (b .ensures .0) (c .before .answer .given .1) in
+    omega (arith, e .fits, b .kept .1 .1 .1 .0)
+
+slice-aggregate-answered : tie.Need-slice-aggregate-answered
+slice-aggregate-answered c =
+    let b = c .before .before .before .before .before .before .before .before .build in
+    let e = wrote _ _ _ _ _ (b .ensures .0) (c .before .before .answer .given .1) in
+    sym (length-take-le _ _ (omega (arith, e .fits, b .kept .1 .1 .1 .0)))
+
+answered-requires : tie.Need-answered-requires
+answered-requires c κs = search needs
+
+enum-known-answer-2 : tie.Need-enum-known-answer-2
+enum-known-answer-2 c = search needs
+
+zero-u32-requires : tie.Need-zero-u32-requires
+zero-u32-requires c κs = search needs
+
+same-length : tie.Need-same-length
+same-length c = search needs
+
+same-length-2 : tie.Need-same-length-2
+same-length-2 c = search needs
+
+same-length-3 : tie.Need-same-length-3
+same-length-3 c = search needs
+
+returns : tie.Need-returns
+returns c =
+    let a = c .before .before .before .before .answered in
+    let b = c .before .before .before .before .before .before .before .before .before .before .before .before .before .before .before .build .ensures in
+    (rides-built _ _ _ _ _ (b .0) _ _ _ (c .before .before .before .before .before .before .before .before .before .answer .given .1) (ap length (b .1) ∙ length-zeros _) _ _ _ (a .ensures .0), a .ensures .1 ∙ ap zeros (b .1) ∙ zeros-again _)
+
+same-length-4 : tie.Need-same-length-4
+same-length-4 c = search needs
+
+same-length-5 : tie.Need-same-length-5
+same-length-5 c = search needs
+
+same-length-6 : tie.Need-same-length-6
+same-length-6 c = search needs
+
+returns-2 : tie.Need-returns-2
+returns-2 c =
+    let b = c .before .before .before .before .before .before .before .before .before .before .before .build .ensures in
+    (rides-refused _ _ _ _ _ (b .0) _ _ _ (c .before .before .before .before .before .answer2 .given .1) (c .before .before .zero-u32 .ensures), b .1)
+
+pub built-rides-spec : {M : Type 1} → statement M
+built-rides-spec =
+    tie.close
+    (tie.spec
+    build-requires
+    enum-known-answer
+    cast-answered
+    slice-reshare-prefix-answered
+    slice-aggregate-answered
+    answered-requires
+    enum-known-answer-2
+    zero-u32-requires
+    same-length
+    same-length-2
+    same-length-3
+    returns
+    same-length-4
+    same-length-5
+    same-length-6
+    returns-2)
