@@ -60,12 +60,41 @@ module _ {T : Tables} (G : GoodTables T) {side : Side} {s hub : ℕ} where
       go (no l) (yes lt) = absurd (after lt (F .here (omega (arith, x .high))))
       go (no l) (no h) = omega arith
 
+  -- and the labels that come after such a place are the last of the set
+  not-before-rises : (m : Moment) {i k d e a b : ℕ} {p q : Option ℕ} → Entry T side i s hub d a p → Entry T side k s hub e b q → i < k → NotBefore m d a → NotBefore m e b
+  not-before-rises (Leaving t) x y lt h = omega (arith, G .deps-rise x y lt)
+  not-before-rises (Arriving t) x y lt h = omega (arith, G .arrs-rise x y lt)
+
+  pub past-rises : (m : Moment) → s < T .stops → (i k : ℕ) → T .start side s ≤ i → i < k → k < T .end side s → Past T hub m i → Past T hub m k
+  past-rises m own i k le lt h p = go p
+    where
+      entry : (j : ℕ) → T .start side s ≤ j → j < T .end side s → Entry T side j s (T .hub j) (T .dep j) (T .arr j) (T .pivot j)
+      entry j a b = entry-at own a b
+
+      with-hub : (j : ℕ) → T .start side s ≤ j → j < T .end side s → T .hub j ≡ hub → Entry T side j s hub (T .dep j) (T .arr j) (T .pivot j)
+      with-hub j a b e = subst (λ g. Entry T side j s g (T .dep j) (T .arr j) (T .pivot j)) e (entry j a b)
+
+      up : T .hub i ≤ T .hub k
+      up = G .hubs-rise (entry i le (omega arith)) (entry k (omega arith) h) lt
+
+      go : Past T hub m i → Past T hub m k
+      go (inl x) = inl (omega (arith, up))
+      go (inr x) = elim (ℕ-discrete (T .hub k) hub) [
+        yes e ↦ inr (e, not-before-rises m (with-hub i le (omega arith) (x .0)) (with-hub k (omega arith) h e) lt (x .1))
+        | no n ↦ inl (omega (arith, up, x .0))
+      ]
+
   -- so there is none where none stands at that place
   pub none-there : (m : Moment) {k : ℕ} → FirstAt (Past T hub m) (T .start side s) (T .end side s) k →
       (k < T .end side s → T .hub k ≡ hub → ¬ (Exactly m (T .dep k) (T .arr k))) → SoughtIn T side s hub m Missing
   none-there m {k} F off i d a p x f =
       let e = stands-there m F x f in
       off (omega (arith, x .high)) (rw (← e) (x .hub)) (rw (← e, x .dep, x .arr) f)
+
+pub set-rises : {b : List ℕ} {n : ℕ} {side : Side} {s from to hub : ℕ} (m : Moment) → SetAt b n side s from to →
+    (i k : ℕ) → from ≤ i → i < k → k < to → Past (tablesOf b) hub m i → Past (tablesOf b) hub m k
+set-rises {b} {side = side} {s} m A i k le lt h =
+    past-rises (good-tables (A .file)) {side = side} {s = s} m (omega (arith, A .owner, tables-stops b, A .file .room .contents .stops)) i k (omega (arith, A .start)) lt (omega (arith, A .end))
 
 -- what the search in a set says of it, where place k was found between the set's bounds
 module _ {b : List ℕ} {n : ℕ} {side : Side} {s from to hub : ℕ} (m : Moment) {k : ℕ} (A : SetAt b n side s from to) (F : FirstAt (Past (tablesOf b) hub m) from to k) where

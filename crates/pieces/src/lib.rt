@@ -95,13 +95,34 @@ pub fn seek(tables: &[u8], n: u16, from: usize, to: usize, hub: u16, m: Moment) 
     k
 }
 
+// The same in one set, whose bounds are given: those of its labels that come at or after the place are its last ones, so that the stretch
+// in which the place lies can be halved at each turn.
+fn place_in(tables: &[u8], n: u16, from: usize, to: usize, hub: u16, m: Moment) -> usize
+    requires { ⌜ Room (now tables) n ⌝ }
+    requires { ⌜ (from ≤ to) × (to ≤ labelsOf (now tables)) ⌝ }
+    ensures { λ r. ⌜ ((side : Side) (s : ℕ) → SetAt (now (tables .entry)) n side s from to → FirstAt (Past (tablesOf (now (tables .entry))) hub m) from to r) ⌝ }
+{
+    let mut low = from;
+    let mut high = to;
+    while low < high {
+        let mid = (low + high) / 2;
+        let l = tables::label_at(tables, n, mid);
+        if is_past(l, hub, m) {
+            high = mid;
+        } else {
+            low = mid + 1;
+        }
+    }
+    low
+}
+
 // The label with this hub and this moment in one set, whose bounds are given.
 fn find_in(tables: &[u8], n: u16, from: usize, to: usize, hub: u16, m: Moment) -> Sought
     requires { ⌜ Room (now tables) n ⌝ }
     requires { ⌜ (from ≤ to) × (to ≤ labelsOf (now tables)) ⌝ }
     ensures { λ r. ⌜ ((side : Side) (s : ℕ) → SetAt (now (tables .entry)) n side s from to → SoughtIn (tablesOf (now (tables .entry))) side s hub m r) ⌝ }
 {
-    let k = seek(tables, n, from, to, hub, m);
+    let k = place_in(tables, n, from, to, hub, m);
     if to <= k {
         return Sought::Missing;
     }
