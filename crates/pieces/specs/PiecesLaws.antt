@@ -19,10 +19,8 @@ use Rattle.journeys.specs.Check.{Halves}
 use Rattle.journeys.specs.SketchLaws.{entry-at, LabelWith, one-by-dep, one-by-arr}
 use Rattle.tables.specs.File.{startOf, setOf, labelsOf, labelAt, pivotOf, tablesOf}
 use Rattle.tables.specs.FileLaws.{start-more}
-use Rattle.tables.specs.Good.{GoodFile}
-use Rattle.kinds.specs.declared.Run.{Run}
-use Rattle.timetable.specs.Numbers.{runAt, serviceOf}
 use Rattle.tables.specs.TablesLaws.{pivot-none, pivot-some, tables-stops, tables-start, tables-end, tables-within, good-tables}
+use Rattle.ground.specs.Ground.{Ready}
 use Rattle.pieces.specs.declared.Moment.{Moment}
 use Rattle.pieces.specs.declared.Moment.the-variants.{Leaving, Arriving}
 use Rattle.pieces.specs.declared.Sought.{Sought}
@@ -32,7 +30,7 @@ use Rattle.pieces.specs.declared.Span.{Span}
 use Rattle.pieces.specs.declared.Meeting.{Meeting}
 use Rattle.pieces.specs.declared.Parted.{Parted}
 use Rattle.pieces.specs.declared.Parted.the-variants as parted
-use Rattle.pieces.specs.Pieces.{Ready, SetAt, FoundIn, SoughtIn, FoundLabel, SoughtAs, MeetAt, PartedAs, IsRun, RunIs}
+use Rattle.pieces.specs.Pieces.{SetAt, FoundIn, SoughtIn, FoundLabel, SoughtAs, MeetAt, PartedAs}
 
 -- ---- the place that was found, in one set of good tables
 
@@ -237,12 +235,3 @@ module _ {T : Tables} (G : GoodTables T) where
   parted-one s (parted.Met h) parted.Missing f n = absurd (n (met-halves s h f))
   parted-one s parted.Missing (parted.Met k) n g = absurd (n (met-halves s k g))
   parted-one s parted.Missing parted.Missing n k = refl
-
--- ---- the run
-
-module _ (list : List ℕ) (s : Span) (i : ℕ) (run : Run) {r : Bool} (e : run ≡ runAt list i) where
-  pub run-true : Tells (IsRun run s) r → r ≡ true → RunIs list s i
-  run-true t f = subst (λ x. IsRun x s) e (told-true t f)
-
-  pub run-false : Tells (IsRun run s) r → r ≡ false → ¬ (RunIs list s i)
-  run-false t f p = told-false t f (subst (λ x. IsRun x s) (sym e) p)
