@@ -15,7 +15,11 @@ use Rattle.loops.specs.FilledLaws.{length-filled, filled-at, filled-beyond}
 use Rattle.loops.specs.FirstLaws.{first-one}
 use Rattle.tables.specs.declared.TablesRead.{TablesRead}
 use Rattle.tables.specs.declared.TablesRead.the-variants as tables
-use Rattle.tables.specs.File.{startOf, labelsOf}
+use Rattle.kinds.specs.Limits.{mostStops}
+use Rattle.journeys.specs.Tables.{Side, outs, ins}
+use Rattle.tables.specs.File.{startOf, endOf, setOf, labelsOf, tablesOf}
+use Rattle.tables.specs.FileLaws.{start-more}
+use Rattle.tables.specs.TablesLaws.{tables-stops, tables-start, tables-end}
 use Rattle.tables.specs.Good.{GoodFile}
 use Rattle.tables.specs.GoodLaws as file
 use Rattle.tables.specs.Judged.{judgedTables}
@@ -126,10 +130,35 @@ lent-index {room = room} D = record {
   next = λ i lt. rw (mid-at startsRoom room (minutes + i)) (D .index .next i lt);
 }
 
--- ---- what is ready
+-- ---- what is ready, as it is read
 
-pub ready-labels : {b : List ℕ} {n : ℕ} {room : List ℕ} {k : ℕ} → Ready b n room → k ≡ getD room (2 * n) 0 → k ≡ labelsOf b
-ready-labels {b} {n} r e = e ∙ r .are (2 * n) (omega arith) ∙ ap (λ (m : ℕ). startOf b (2 * m)) (sym (r .file .room .contents .stops))
+module _ {b : List ℕ} {n : ℕ} {room : List ℕ} (r : Ready b n room) where
+  pub ready-stops : tablesOf b .stops ≡ n
+  ready-stops = tables-stops b ∙ r .file .room .contents .stops
+
+  pub ready-few : tablesOf b .stops ≤ mostStops
+  ready-few = omega (arith, ready-stops, r .file .room .contents .few)
+
+  pub ready-start : {set k : ℕ} → set ≤ 2 * n → k ≡ getD room set 0 → k ≡ startOf b set
+  ready-start lt e = e ∙ r .are _ lt
+
+  pub ready-end : {set k : ℕ} → set < 2 * n → k ≡ getD room (set + 1) 0 → k ≡ endOf b set
+  ready-end {set} lt e = e ∙ r .are (set + 1) (omega arith) ∙ start-more b set
+
+  -- the bounds of a set
+  pub set-start : (side : Side) (o : ℕ) → o < n → getD room (setOf side o) 0 ≡ tablesOf b .start side o
+  set-start outs o lt = r .are (2 * o) (omega arith) ∙ sym (tables-start b outs o)
+  set-start ins o lt = r .are (2 * o + 1) (omega arith) ∙ sym (tables-start b ins o)
+
+  pub set-end : (side : Side) (o : ℕ) → o < n → getD room (setOf side o + 1) 0 ≡ tablesOf b .end side o
+  set-end outs o lt = r .are (2 * o + 1) (omega arith) ∙ start-more b (2 * o) ∙ sym (tables-end b outs o)
+  set-end ins o lt = r .are (2 * o + 1 + 1) (omega arith) ∙ start-more b (2 * o + 1) ∙ sym (tables-end b ins o)
+
+  pub ready-labels : {k : ℕ} → k ≡ getD room (2 * n) 0 → k ≡ labelsOf b
+  ready-labels e = e ∙ r .are (2 * n) (omega arith) ∙ ap (λ (m : ℕ). startOf b (2 * m)) (sym (r .file .room .contents .stops))
+
+pub set-rising : (b : List ℕ) (side : Side) (o : ℕ) → tablesOf b .start side o ≤ tablesOf b .end side o
+set-rising b side o = omega (arith, tables-start b side o, tables-end b side o)
 
 -- ---- no second room meets the contract
 pub ground-one : (b : List ℕ) (n : ℕ) (runs : List ℕ) (count : ℕ) (before x y : List ℕ) → Ground b n x runs count → Beside n count before x → Ground b n y runs count → Beside n count before y → x ≡ y

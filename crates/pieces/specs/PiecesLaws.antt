@@ -12,15 +12,15 @@ use lib.ListN.{length, getD}
 use Rattle.loops.specs.First.{FirstAt}
 use Rattle.loops.specs.Tells.{Tells}
 use Rattle.loops.specs.TellsLaws.{told-true, told-false}
-use Rattle.kinds.specs.Limits.{mostStops, noPivot}
+use Rattle.kinds.specs.Limits.{noPivot}
 use Rattle.kinds.specs.declared.Label as kinds
 use Rattle.journeys.specs.Tables.{Side, outs, ins, Tables, Entry, of-out, of-in, Label, GoodTables}
 use Rattle.journeys.specs.Check.{Halves}
 use Rattle.journeys.specs.SketchLaws.{entry-at, LabelWith, one-by-dep, one-by-arr}
-use Rattle.tables.specs.File.{startOf, setOf, labelsOf, labelAt, pivotOf, tablesOf}
-use Rattle.tables.specs.FileLaws.{start-more}
-use Rattle.tables.specs.TablesLaws.{pivot-none, pivot-some, tables-stops, tables-start, tables-end, tables-within, good-tables}
+use Rattle.tables.specs.File.{labelsOf, labelAt, pivotOf, tablesOf}
+use Rattle.tables.specs.TablesLaws.{pivot-none, pivot-some, tables-stops, tables-within, good-tables}
 use Rattle.ground.specs.Ground.{Ready}
+use Rattle.ground.specs.GroundLaws.{set-start, set-end, set-rising}
 use Rattle.pieces.specs.declared.Moment.{Moment}
 use Rattle.pieces.specs.declared.Moment.the-variants.{Leaving, Arriving}
 use Rattle.pieces.specs.declared.Sought.{Sought}
@@ -120,29 +120,15 @@ module _ {b : List ℕ} {n : ℕ} {side : Side} {s from to hub : ℕ} (m : Momen
 -- ---- the bounds that were written down, and the label by its ends
 
 module _ {b : List ℕ} {n : ℕ} {starts : List ℕ} (R : Ready b n starts) where
-  pub ready-stops : tablesOf b .stops ≡ n
-  ready-stops = tables-stops b ∙ R .file .room .contents .stops
-
-  pub ready-few : tablesOf b .stops ≤ mostStops
-  ready-few = omega (arith, ready-stops, R .file .room .contents .few)
-
-  set-at : (side : Side) (s from to : ℕ) → s < n → setOf side s < 2 * n → from ≡ getD starts (setOf side s) 0 → to ≡ getD starts (setOf side s + 1) 0 → SetAt b n side s from to
-  set-at side s from to lt h e f = record {
-    file = R .file;
-    owner = lt;
-    start = tables-start b side s ∙ sym (R .are (setOf side s) (omega arith)) ∙ sym e;
-    end = tables-end b side s ∙ sym (start-more b (setOf side s)) ∙ sym (R .are (setOf side s + 1) (omega arith)) ∙ sym f;
-  }
-
   pub outs-at : (s from to : ℕ) → s < n → from ≡ getD starts (2 * s) 0 → to ≡ getD starts (2 * s + 1) 0 → SetAt b n outs s from to
-  outs-at s from to lt = set-at outs s from to lt (omega arith)
+  outs-at s from to lt e f = record { file = R .file; owner = lt; start = sym (e ∙ set-start R outs s lt); end = sym (f ∙ set-end R outs s lt) }
 
   pub ins-at : (s from to : ℕ) → s < n → from ≡ getD starts (2 * s + 1) 0 → to ≡ getD starts (2 * s + 1 + 1) 0 → SetAt b n ins s from to
-  ins-at s from to lt = set-at ins s from to lt (omega arith)
+  ins-at s from to lt e f = record { file = R .file; owner = lt; start = sym (e ∙ set-start R ins s lt); end = sym (f ∙ set-end R ins s lt) }
 
 -- bounds of a set are in order, and within the labels
 pub set-bounds : {b : List ℕ} {n : ℕ} {side : Side} {s from to : ℕ} → SetAt b n side s from to → (from ≤ to) × (to ≤ labelsOf b)
-set-bounds {b} {side = side} {s} A = (omega (arith, A .start, A .end, tables-start b side s, tables-end b side s), omega (arith, A .end, tables-within (A .file) side s (A .owner)))
+set-bounds {b} {side = side} {s} A = (omega (arith, A .start, A .end, set-rising b side s), omega (arith, A .end, tables-within (A .file) side s (A .owner)))
 
 module _ {T : Tables} (G : GoodTables T) {u v : ℕ} (m : Moment) where
   -- a label u to v stands among the out-labels of u where v is the lower number, else among the in-labels of v

@@ -7,7 +7,7 @@ use lib.ListN.{length, length-append}
 use borrow.Rule.Slice.PartMut.{same-len-mid}
 use Rattle.loops.specs.WrittenLaws.{written-two}
 use Rattle.tables.specs.TablesLaws.{good-tables}
-use Rattle.pieces.specs.PiecesLaws.{ready-stops}
+use Rattle.ground.specs.GroundLaws.{ready-stops}
 use Rattle.opening.specs.OpenLaws.{first-in, second-in, first-shorter, second-shorter, few-first, few-second, both-open, first-missing, second-missing, halves-missing}
 use Prim.Native.Nat.{ℕ, _<_}
 use borrow.Fn.Kinds.{In}
