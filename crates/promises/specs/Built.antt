@@ -21,13 +21,14 @@ use Rattle.asks.specs.Asks.{asked, Answers}
 use Rattle.builder.specs.Build.{RuleFile}
 use Rattle.verdict.specs.declared.Verdict.{Verdict}
 use Rattle.verdict.specs.declared.Verdict.the-variants as verdict
-use Rattle.verdict.specs.Verdict.{checkRoom, judgedBoth, Checked}
+use Rattle.ground.specs.Ground.{groundRoom}
+use Rattle.verdict.specs.Verdict.{Checked}
 use Rattle.promises.specs.Demands.{TimetableAnswers}
 use Rattle.promises.specs.Accepted.{truly, asked-apart, rule-accepted}
 
 module _ (stops count : ℕ) (list file : List ℕ) (F : RuleFile (serviceOf stops count list) file) where
   -- what the builder writes is accepted by the check
-  pub built-accepted : (lent : ℕ) → judgedOf stops count list lent checkRoom ≡ numbers.Good → (r : Verdict) → Checked file stops count list lent r → r ≡ verdict.Accepted
+  pub built-accepted : (lent : ℕ) → judgedOf stops count list lent groundRoom ≡ numbers.Good → (r : Verdict) → Checked file stops count list lent r → r ≡ verdict.Accepted
   built-accepted lent e r c =
       rule-accepted file stops count list lent {n = serviceOf stops count list .stops} r
       (rw (F .good, e, eq-eqb (serviceOf stops count list .stops) stops (service-stops stops count list)) refl) (F .rule) c
