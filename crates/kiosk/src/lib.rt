@@ -4,7 +4,6 @@ use asks::Answer;
 use builder::BuildAnswer;
 use builder::Work;
 use reader::ReadAnswer;
-use rides::Listed;
 use rides::RidesAnswer;
 use verdict::Verdict;
 ghost use mathlib.Core.Path.{_≡_};
@@ -17,10 +16,11 @@ ghost use Rattle.asks.specs.Asks.{asked, Answers};
 ghost use Rattle.reader.specs.Text.{readText, answerOf, runsOf, codesOf};
 ghost use Rattle.loops.specs.Zero.{zeros};
 ghost use Rattle.timetable.specs.Numbers.{serviceOf};
+ghost use Rattle.ground.specs.Ground.{groundRoom};
 ghost use Rattle.verdict.specs.declared.Verdict.{Verdict};
-ghost use Rattle.verdict.specs.Verdict.{checkRoom, Checked};
+ghost use Rattle.verdict.specs.Verdict.{Checked};
 ghost use Rattle.rides.specs.declared.RidesAnswer.{RidesAnswer};
-ghost use Rattle.rides.specs.Lists.{ridesRoom, ridesAsked, Lists};
+ghost use Rattle.rides.specs.Lists.{ridesAsked, Lists};
 ghost use Rattle.kiosk.specs.Four.{fourAsk, fourRead, fourCheck, fourRides, fourBuild};
 ghost use Rattle.builder.specs.declared.BuildAnswer.{BuildAnswer};
 ghost use Rattle.builder.specs.Build.{buildRoom, BuildOf};
@@ -114,9 +114,9 @@ fn four_rides(a: RidesAnswer) -> [u32; 4]
 // How many numbers of two bytes the check needs as working room.
 #[no_mangle]
 pub extern "C" fn kiosk_check_room() -> u32
-    ensures { λ r. ⌜ r ≡ checkRoom ⌝ }
+    ensures { λ r. ⌜ r ≡ groundRoom ⌝ }
 {
-    Verdict::ROOM as u32
+    ground::ROOM as u32
 }
 
 // The check of tables from anyone against a timetable's numbers: [0, 0, 0, 0] where they are accepted.
@@ -139,9 +139,9 @@ pub extern "C" fn kiosk_check(
 // How many numbers of two bytes an ask with rides needs as working room.
 #[no_mangle]
 pub extern "C" fn kiosk_rides_room() -> u32
-    ensures { λ r. ⌜ r ≡ ridesRoom ⌝ }
+    ensures { λ r. ⌜ r ≡ groundRoom ⌝ }
 {
-    Listed::ROOM as u32
+    ground::ROOM as u32
 }
 
 // early with its rides: [0, departure, arrival, rides], and the run numbers in the list.

@@ -19,10 +19,10 @@ use Rattle.tables.specs.TablesLaws.{pivot-none, pivot-some}
 use Rattle.timetable.specs.Numbers.{serviceOf}
 use Rattle.pieces.specs.declared.Span.{Span}
 use Rattle.pieces.specs.declared.Meeting.{Meeting}
-use Rattle.pieces.specs.Pieces.{MeetAt, IsRun, RunIs}
+use Rattle.pieces.specs.Pieces.{SpanIn, MeetAt, RunIs}
 use Rattle.opening.specs.declared.Opened.{Opened}
 use Rattle.opening.specs.declared.Opened.the-variants.{Rides, Missing}
-use Rattle.opening.specs.Opening.{SpanIn, SpanOpens, OpenedInto}
+use Rattle.opening.specs.Opening.{SpanOpens, OpenedInto}
 
 -- ---- with no pivot
 
@@ -61,10 +61,10 @@ label-pivot {T} G {u} {v} {d} {a} p l n = go (subst (Label T u v d a) (pivot-som
 module _ {T : Tables} (G : GoodTables T) {s : Span} {h : Meeting} (M : MeetAt T s h) where
   -- the parts' stops are stops
   pub first-in : (n : ℕ) → T .stops ≡ n → SpanIn n (firstOf s h)
-  first-in n e = record { from-stop = omega (arith, label-from G (M .first)); to-stop = omega (arith, label-to G (M .first)); pivot-stop = λ f. omega (arith, label-pivot G (h .first) (M .first) f) }
+  first-in n e = record { from-stop = omega (arith, label-from G (M .first)); to-stop = omega (arith, label-to G (M .first)); pivot-stop = λ f. omega (arith, label-pivot G (h .first) (M .first) f); leaves = omega (arith, label-later G (M .first), label-last G (M .first)) }
 
   pub second-in : (n : ℕ) → T .stops ≡ n → SpanIn n (secondOf s h)
-  second-in n e = record { from-stop = omega (arith, label-from G (M .second)); to-stop = omega (arith, label-to G (M .second)); pivot-stop = λ f. omega (arith, label-pivot G (h .second) (M .second) f) }
+  second-in n e = record { from-stop = omega (arith, label-from G (M .second)); to-stop = omega (arith, label-to G (M .second)); pivot-stop = λ f. omega (arith, label-pivot G (h .second) (M .second) f); leaves = omega (arith, label-later G (M .second), label-last G (M .second)) }
 
   -- and they are shorter
   pub first-shorter : h .mid - s .dep < s .arr - s .dep

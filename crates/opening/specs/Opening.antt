@@ -1,31 +1,17 @@
 -- Rides opened into a lent list.
-use Prim.Native.Nat.{ℕ, _<_}
+use Prim.Native.Nat.{ℕ}
 use mathlib.Core.Path.{_≡_}
 use mathlib.Core.List.{List}
 use lib.ListN.{length}
 use Rattle.loops.specs.Written.{written}
 use Rattle.loops.specs.Zero.{zeros}
-use Rattle.kinds.specs.Limits.{noPivot}
 use Rattle.journeys.specs.Service.{Service}
 use Rattle.journeys.specs.Tables.{Tables}
 use Rattle.journeys.specs.Rides.{Opens}
 use Rattle.tables.specs.File.{pivotOf}
-use Rattle.timetable.specs.Numbers.{GoodNumbers}
 use Rattle.pieces.specs.declared.Span.{Span}
-use Rattle.pieces.specs.Pieces.{Ready}
 use Rattle.opening.specs.declared.Opened.{Opened}
 use Rattle.opening.specs.declared.Opened.the-variants.{Rides, Missing}
-
--- good tables and good numbers of n stops
-pub record Ground (b : List ℕ) (n : ℕ) (starts runs : List ℕ) (count : ℕ) : Type 0 where
-  pub ready : Ready b n starts
-  pub numbers : GoodNumbers n count runs
-
--- the span's stops are stops, and so is its pivot if it has one
-pub record SpanIn (n : ℕ) (s : Span) : Type 0 where
-  pub from-stop : s .from < n
-  pub to-stop : s .to < n
-  pub pivot-stop : (s .pivot ≡ noPivot → ⊥) → s .pivot < n
 
 -- l is "Rides of a label"
 abbrev pub SpanOpens : Service → Tables → Span → List ℕ → Type 0

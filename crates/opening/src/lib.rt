@@ -7,14 +7,15 @@ use pieces::Span;
 ghost use mathlib.Core.Path.{_≡_};
 ghost use Prim.Native.Nat.{ℕ, min, _≤_, _<_};
 ghost use Rattle.loops.specs.Tells.{Tells};
-ghost use Rattle.kinds.specs.Limits.{noPivot};
+ghost use Rattle.kinds.specs.Limits.{noPivot, lastMinute};
 ghost use Rattle.journeys.specs.Tables.{Tables};
 ghost use Rattle.journeys.specs.Rides.{Chosen};
 ghost use Rattle.tables.specs.File.{tablesOf, labelsOf};
 ghost use Rattle.tables.specs.Good.{Room};
-ghost use Rattle.timetable.specs.Numbers.{serviceOf, GoodNumbers};
-ghost use Rattle.pieces.specs.Pieces.{Ready};
-ghost use Rattle.opening.specs.Opening.{Ground, SpanIn, SpanOpens, OpenedAs, OpenedInto};
+ghost use Rattle.timetable.specs.Numbers.{serviceOf};
+ghost use Rattle.ground.specs.Ground.{Ready, ByDeparture, Ground};
+ghost use Rattle.pieces.specs.Pieces.{SpanIn};
+ghost use Rattle.opening.specs.Opening.{SpanOpens, OpenedAs, OpenedInto};
 ghost use Rattle.opening.specs.Choosing.{Joins, HubAs, WayAs};
 
 // How many rides there are, or that one is missing.
@@ -39,12 +40,13 @@ fn lesser(a: usize, b: usize) -> usize
 }
 
 // With no pivot: the lowest-numbered run, listed where there is room.
-fn open_run(runs: &[u32], count: usize, s: Span, list: &mut [u32]) -> Opened
-    requires { ⌜ ((stops : ℕ) × GoodNumbers stops count (now runs)) ⌝ }
+fn open_run(runs: &[u32], count: usize, room: &[u16], s: Span, list: &mut [u32]) -> Opened
+    requires { ⌜ ((n : ℕ) × ByDeparture n (now room) (now runs) count) ⌝ }
     requires { ⌜ s .pivot ≡ noPivot ⌝ }
+    requires { ⌜ s .dep ≤ lastMinute ⌝ }
     ensures { λ r. ⌜ ((stops : ℕ) (T : Tables) → OpenedAs (SpanOpens (serviceOf stops count (now (runs .entry))) T s) (now (list .entry)) (now (list .exit)) r) ⌝ }
 {
-    let i = pieces::find_run(runs, count, s);
+    let i = pieces::find_run(runs, count, room, s);
     if count <= i {
         return Opened::Missing;
     }
@@ -60,20 +62,20 @@ fn open_run(runs: &[u32], count: usize, s: Span, list: &mut [u32]) -> Opened
 fn open_span(
     tables: &[u8],
     n: u16,
-    starts: &[u16],
+    room: &[u16],
     runs: &[u32],
     count: usize,
     s: Span,
     list: &mut [u32],
 ) -> Opened
-    requires { ⌜ Ground (now tables) n (now starts) (now runs) count ⌝ }
+    requires { ⌜ Ground (now tables) n (now room) (now runs) count ⌝ }
     requires { ⌜ SpanIn n s ⌝ }
     ensures { λ r. ⌜ OpenedAs (SpanOpens (serviceOf n count (now (runs .entry))) (tablesOf (now (tables .entry))) s) (now (list .entry)) (now (list .exit)) r ⌝ }
 {
     if s.pivot == Label::NO_PIVOT {
-        return open_run(runs, count, s, list);
+        return open_run(runs, count, room, s, list);
     }
-    let parted = pieces::halves(tables, n, starts, s);
+    let parted = pieces::halves(tables, n, room, s);
     match parted {
         Parted::Missing => Opened::Missing,
         Parted::Met(h) => {
@@ -84,7 +86,7 @@ fn open_span(
                 arr: h.mid,
                 pivot: h.first,
             };
-            let a = open_span(tables, n, starts, runs, count, first, list);
+            let a = open_span(tables, n, room, runs, count, first, list);
             match a {
                 Opened::Missing => Opened::Missing,
                 Opened::Rides(k) => {
@@ -96,7 +98,7 @@ fn open_span(
                         arr: s.arr,
                         pivot: h.second,
                     };
-                    let b = open_span(tables, n, starts, runs, count, second, &mut list[start..]);
+                    let b = open_span(tables, n, room, runs, count, second, &mut list[start..]);
                     match b {
                         Opened::Missing => Opened::Missing,
                         Opened::Rides(m) => Opened::Rides(k + m),
@@ -140,11 +142,11 @@ fn lowest_hub(tables: &[u8], n: u16, starts: &[u16], u: u16, v: u16, d: u16, a: 
     ensures { λ r. ⌜ HubAs (tablesOf (now (tables .entry))) u v d a r ⌝ }
 {
     let outs = 2 * (u as usize);
-    let out_to = pieces::start_at(starts, outs + 1);
+    let out_to = ground::start_at(starts, outs + 1);
     let ins = 2 * (v as usize) + 1;
-    let in_to = pieces::start_at(starts, ins + 1);
-    let mut place = pieces::start_at(starts, ins);
-    let mut k = pieces::start_at(starts, outs);
+    let in_to = ground::start_at(starts, ins + 1);
+    let mut place = ground::start_at(starts, ins);
+    let mut k = ground::start_at(starts, outs);
     while k < out_to {
         let l = tables::label_at(tables, n, k);
         place = pieces::seek(tables, n, place, in_to, l.hub, Moment::Arriving(a));
@@ -178,7 +180,7 @@ fn way_of(tables: &[u8], n: u16, starts: &[u16], u: u16, v: u16, d: u16, a: u16)
 pub fn open_answer(
     tables: &[u8],
     n: u16,
-    starts: &[u16],
+    room: &[u16],
     runs: &[u32],
     count: usize,
     u: u16,
@@ -187,11 +189,11 @@ pub fn open_answer(
     a: u16,
     list: &mut [u32],
 ) -> Opened
-    requires { ⌜ Ground (now tables) n (now starts) (now runs) count ⌝ }
+    requires { ⌜ Ground (now tables) n (now room) (now runs) count ⌝ }
     requires { ⌜ (u < n) × (v < n) ⌝ }
     ensures { λ r. ⌜ OpenedInto (Chosen (serviceOf n count (now (runs .entry))) (tablesOf (now (tables .entry))) u v d a) (now (list .entry)) (now (list .exit)) r ⌝ }
 {
-    let way = way_of(tables, n, starts, u, v, d, a);
+    let way = way_of(tables, n, room, u, v, d, a);
     match way {
         Way::Nowhere => {
             loops::zero_u32(list);
@@ -205,7 +207,7 @@ pub fn open_answer(
                 arr: a,
                 pivot,
             };
-            let opened = open_span(tables, n, starts, runs, count, s, list);
+            let opened = open_span(tables, n, room, runs, count, s, list);
             match opened {
                 Opened::Rides(k) => Opened::Rides(k),
                 Opened::Missing => {

@@ -1,17 +1,17 @@
 -- What is looked up: a label by its ends and one of its minutes; the two labels that meet at a pivot; a run by its ends and minutes.
-use Prim.Native.Nat.{ℕ, min, _*_, _≤_, _<_}
+use Prim.Native.Nat.{ℕ, min, _≤_, _<_}
 use mathlib.Core.Path.{_≡_}
 use mathlib.Core.List.{List}
 use mathlib.Core.Option.{Option}
-use lib.ListN.{length, getD}
+use Rattle.kinds.specs.Limits.{noPivot, lastMinute}
 use Rattle.kinds.specs.declared.Label as kinds
-use Rattle.kinds.specs.declared.Run.{Run}
 use Rattle.journeys.specs.Tables.{Side, Tables, Entry, Label}
 use Rattle.journeys.specs.Check.{Halves}
 use Rattle.journeys.specs.SketchLaws.{LabelWith}
-use Rattle.tables.specs.File.{startOf, pivotOf, tablesOf}
+use Rattle.tables.specs.File.{pivotOf, tablesOf}
 use Rattle.tables.specs.Good.{GoodFile}
 use Rattle.timetable.specs.Numbers.{runAt}
+use Rattle.departures.specs.Departures.{IsRun}
 use Rattle.pieces.specs.declared.Moment.{Moment}
 use Rattle.pieces.specs.declared.Span.{Span}
 use Rattle.pieces.specs.declared.Sought.{Sought}
@@ -20,12 +20,6 @@ use Rattle.pieces.specs.declared.Meeting.{Meeting}
 use Rattle.pieces.specs.declared.Parted.{Parted}
 use Rattle.pieces.specs.declared.Parted.the-variants as parted
 use Rattle.pieces.specs.Seek.{Exactly}
-
--- a good file of n stops, with the starts of its sets written down and the number of labels behind them
-pub record Ready (b : List ℕ) (n : ℕ) (starts : List ℕ) : Type 0 where
-  pub file : GoodFile b n
-  pub long : 2 * n < length starts
-  pub are : (set : ℕ) → set ≤ 2 * n → getD starts set 0 ≡ startOf b set
 
 -- the set of the owner s on this side lies between these bounds
 pub record SetAt (b : List ℕ) (n : ℕ) (side : Side) (s from to : ℕ) : Type 0 where
@@ -56,11 +50,12 @@ abbrev pub SoughtAs : Tables → ℕ → ℕ → Moment → Sought → Type 0
 SoughtAs T u v m (Found l) = FoundLabel T u v m l
 SoughtAs T u v m Missing = ¬ (LabelWith T u v (Exactly m))
 
--- a span whose pivot is a stop, as its ends are
-pub record SpanParts (n : ℕ) (s : Span) : Type 0 where
+-- the span's stops are stops, and so is its pivot if it has one; it leaves at one of the minutes
+pub record SpanIn (n : ℕ) (s : Span) : Type 0 where
   pub from-stop : s .from < n
   pub to-stop : s .to < n
-  pub pivot-stop : s .pivot < n
+  pub pivot-stop : (s .pivot ≡ noPivot → ⊥) → s .pivot < n
+  pub leaves : s .dep ≤ lastMinute
 
 -- "the label u to p that leaves at the same minute, then the label p to v that arrives at the same minute, the first arriving no later than
 -- the second leaves", or that they are not there
@@ -73,12 +68,6 @@ abbrev pub PartedAs : Tables → Span → Parted → Type 0
 PartedAs T s (parted.Met h) = MeetAt T s h
 PartedAs T s parted.Missing = ¬ (Halves T (s .from) (s .pivot) (s .to) (s .dep) (s .arr))
 
--- "run with its ends and minutes"
-pub record IsRun (r : Run) (s : Span) : Type 0 where
-  pub goes : r .from ≡ s .from
-  pub ends : r .to ≡ s .to
-  pub leaves : r .dep ≡ s .dep
-  pub arrives : r .arr ≡ s .arr
-
+-- "the lowest-numbered run with its ends and minutes"
 abbrev pub RunIs : List ℕ → Span → ℕ → Type 0
-RunIs list s i = IsRun (runAt list i) s
+RunIs list s i = IsRun (runAt list i) (s .from) (s .to) (s .dep) (s .arr)

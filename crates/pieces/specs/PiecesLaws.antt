@@ -12,17 +12,15 @@ use lib.ListN.{length, getD}
 use Rattle.loops.specs.First.{FirstAt}
 use Rattle.loops.specs.Tells.{Tells}
 use Rattle.loops.specs.TellsLaws.{told-true, told-false}
-use Rattle.kinds.specs.Limits.{mostStops, noPivot}
+use Rattle.kinds.specs.Limits.{noPivot}
 use Rattle.kinds.specs.declared.Label as kinds
 use Rattle.journeys.specs.Tables.{Side, outs, ins, Tables, Entry, of-out, of-in, Label, GoodTables}
 use Rattle.journeys.specs.Check.{Halves}
 use Rattle.journeys.specs.SketchLaws.{entry-at, LabelWith, one-by-dep, one-by-arr}
-use Rattle.tables.specs.File.{startOf, setOf, labelsOf, labelAt, pivotOf, tablesOf}
-use Rattle.tables.specs.FileLaws.{start-more}
-use Rattle.tables.specs.Good.{GoodFile}
-use Rattle.kinds.specs.declared.Run.{Run}
-use Rattle.timetable.specs.Numbers.{runAt, serviceOf}
-use Rattle.tables.specs.TablesLaws.{pivot-none, pivot-some, tables-stops, tables-start, tables-end, tables-within, good-tables}
+use Rattle.tables.specs.File.{labelsOf, labelAt, pivotOf, tablesOf}
+use Rattle.tables.specs.TablesLaws.{pivot-none, pivot-some, tables-stops, tables-within, good-tables}
+use Rattle.ground.specs.Ground.{Ready}
+use Rattle.ground.specs.GroundLaws.{set-start, set-end, set-rising}
 use Rattle.pieces.specs.declared.Moment.{Moment}
 use Rattle.pieces.specs.declared.Moment.the-variants.{Leaving, Arriving}
 use Rattle.pieces.specs.declared.Sought.{Sought}
@@ -32,7 +30,7 @@ use Rattle.pieces.specs.declared.Span.{Span}
 use Rattle.pieces.specs.declared.Meeting.{Meeting}
 use Rattle.pieces.specs.declared.Parted.{Parted}
 use Rattle.pieces.specs.declared.Parted.the-variants as parted
-use Rattle.pieces.specs.Pieces.{Ready, SetAt, FoundIn, SoughtIn, FoundLabel, SoughtAs, MeetAt, PartedAs, IsRun, RunIs}
+use Rattle.pieces.specs.Pieces.{SetAt, FoundIn, SoughtIn, FoundLabel, SoughtAs, MeetAt, PartedAs}
 
 -- ---- the place that was found, in one set of good tables
 
@@ -60,12 +58,41 @@ module _ {T : Tables} (G : GoodTables T) {side : Side} {s hub : ℕ} where
       go (no l) (yes lt) = absurd (after lt (F .here (omega (arith, x .high))))
       go (no l) (no h) = omega arith
 
+  -- and the labels that come after such a place are the last of the set
+  not-before-rises : (m : Moment) {i k d e a b : ℕ} {p q : Option ℕ} → Entry T side i s hub d a p → Entry T side k s hub e b q → i < k → NotBefore m d a → NotBefore m e b
+  not-before-rises (Leaving t) x y lt h = omega (arith, G .deps-rise x y lt)
+  not-before-rises (Arriving t) x y lt h = omega (arith, G .arrs-rise x y lt)
+
+  pub past-rises : (m : Moment) → s < T .stops → (i k : ℕ) → T .start side s ≤ i → i < k → k < T .end side s → Past T hub m i → Past T hub m k
+  past-rises m own i k le lt h p = go p
+    where
+      entry : (j : ℕ) → T .start side s ≤ j → j < T .end side s → Entry T side j s (T .hub j) (T .dep j) (T .arr j) (T .pivot j)
+      entry j a b = entry-at own a b
+
+      with-hub : (j : ℕ) → T .start side s ≤ j → j < T .end side s → T .hub j ≡ hub → Entry T side j s hub (T .dep j) (T .arr j) (T .pivot j)
+      with-hub j a b e = subst (λ g. Entry T side j s g (T .dep j) (T .arr j) (T .pivot j)) e (entry j a b)
+
+      up : T .hub i ≤ T .hub k
+      up = G .hubs-rise (entry i le (omega arith)) (entry k (omega arith) h) lt
+
+      go : Past T hub m i → Past T hub m k
+      go (inl x) = inl (omega (arith, up))
+      go (inr x) = elim (ℕ-discrete (T .hub k) hub) [
+        yes e ↦ inr (e, not-before-rises m (with-hub i le (omega arith) (x .0)) (with-hub k (omega arith) h e) lt (x .1))
+        | no n ↦ inl (omega (arith, up, x .0))
+      ]
+
   -- so there is none where none stands at that place
   pub none-there : (m : Moment) {k : ℕ} → FirstAt (Past T hub m) (T .start side s) (T .end side s) k →
       (k < T .end side s → T .hub k ≡ hub → ¬ (Exactly m (T .dep k) (T .arr k))) → SoughtIn T side s hub m Missing
   none-there m {k} F off i d a p x f =
       let e = stands-there m F x f in
       off (omega (arith, x .high)) (rw (← e) (x .hub)) (rw (← e, x .dep, x .arr) f)
+
+pub set-rises : {b : List ℕ} {n : ℕ} {side : Side} {s from to hub : ℕ} (m : Moment) → SetAt b n side s from to →
+    (i k : ℕ) → from ≤ i → i < k → k < to → Past (tablesOf b) hub m i → Past (tablesOf b) hub m k
+set-rises {b} {side = side} {s} m A i k le lt h =
+    past-rises (good-tables (A .file)) {side = side} {s = s} m (omega (arith, A .owner, tables-stops b, A .file .room .contents .stops)) i k (omega (arith, A .start)) lt (omega (arith, A .end))
 
 -- what the search in a set says of it, where place k was found between the set's bounds
 module _ {b : List ℕ} {n : ℕ} {side : Side} {s from to hub : ℕ} (m : Moment) {k : ℕ} (A : SetAt b n side s from to) (F : FirstAt (Past (tablesOf b) hub m) from to k) where
@@ -93,29 +120,15 @@ module _ {b : List ℕ} {n : ℕ} {side : Side} {s from to hub : ℕ} (m : Momen
 -- ---- the bounds that were written down, and the label by its ends
 
 module _ {b : List ℕ} {n : ℕ} {starts : List ℕ} (R : Ready b n starts) where
-  pub ready-stops : tablesOf b .stops ≡ n
-  ready-stops = tables-stops b ∙ R .file .room .contents .stops
-
-  pub ready-few : tablesOf b .stops ≤ mostStops
-  ready-few = omega (arith, ready-stops, R .file .room .contents .few)
-
-  set-at : (side : Side) (s from to : ℕ) → s < n → setOf side s < 2 * n → from ≡ getD starts (setOf side s) 0 → to ≡ getD starts (setOf side s + 1) 0 → SetAt b n side s from to
-  set-at side s from to lt h e f = record {
-    file = R .file;
-    owner = lt;
-    start = tables-start b side s ∙ sym (R .are (setOf side s) (omega arith)) ∙ sym e;
-    end = tables-end b side s ∙ sym (start-more b (setOf side s)) ∙ sym (R .are (setOf side s + 1) (omega arith)) ∙ sym f;
-  }
-
   pub outs-at : (s from to : ℕ) → s < n → from ≡ getD starts (2 * s) 0 → to ≡ getD starts (2 * s + 1) 0 → SetAt b n outs s from to
-  outs-at s from to lt = set-at outs s from to lt (omega arith)
+  outs-at s from to lt e f = record { file = R .file; owner = lt; start = sym (e ∙ set-start R outs s lt); end = sym (f ∙ set-end R outs s lt) }
 
   pub ins-at : (s from to : ℕ) → s < n → from ≡ getD starts (2 * s + 1) 0 → to ≡ getD starts (2 * s + 1 + 1) 0 → SetAt b n ins s from to
-  ins-at s from to lt = set-at ins s from to lt (omega arith)
+  ins-at s from to lt e f = record { file = R .file; owner = lt; start = sym (e ∙ set-start R ins s lt); end = sym (f ∙ set-end R ins s lt) }
 
 -- bounds of a set are in order, and within the labels
 pub set-bounds : {b : List ℕ} {n : ℕ} {side : Side} {s from to : ℕ} → SetAt b n side s from to → (from ≤ to) × (to ≤ labelsOf b)
-set-bounds {b} {side = side} {s} A = (omega (arith, A .start, A .end, tables-start b side s, tables-end b side s), omega (arith, A .end, tables-within (A .file) side s (A .owner)))
+set-bounds {b} {side = side} {s} A = (omega (arith, A .start, A .end, set-rising b side s), omega (arith, A .end, tables-within (A .file) side s (A .owner)))
 
 module _ {T : Tables} (G : GoodTables T) {u v : ℕ} (m : Moment) where
   -- a label u to v stands among the out-labels of u where v is the lower number, else among the in-labels of v
@@ -208,12 +221,3 @@ module _ {T : Tables} (G : GoodTables T) where
   parted-one s (parted.Met h) parted.Missing f n = absurd (n (met-halves s h f))
   parted-one s parted.Missing (parted.Met k) n g = absurd (n (met-halves s k g))
   parted-one s parted.Missing parted.Missing n k = refl
-
--- ---- the run
-
-module _ (list : List ℕ) (s : Span) (i : ℕ) (run : Run) {r : Bool} (e : run ≡ runAt list i) where
-  pub run-true : Tells (IsRun run s) r → r ≡ true → RunIs list s i
-  run-true t f = subst (λ x. IsRun x s) e (told-true t f)
-
-  pub run-false : Tells (IsRun run s) r → r ≡ false → ¬ (RunIs list s i)
-  run-false t f p = told-false t f (subst (λ x. IsRun x s) (sym e) p)

@@ -1,18 +1,17 @@
 // What a label is made of, looked up in good tables and good numbers: the lowest-numbered run with its ends and minutes, or the two
 // labels that meet at its pivot.
 use kinds::Label;
-use kinds::Run;
 ghost use mathlib.Core.Path.{_≡_};
-ghost use Prim.Native.Nat.{ℕ, _*_, _≤_, _<_};
-ghost use lib.ListN.{length, getD};
+ghost use Prim.Native.Nat.{ℕ, _≤_, _<_};
 ghost use Rattle.loops.specs.First.{FirstAt};
 ghost use Rattle.loops.specs.Tells.{Tells};
+ghost use Rattle.kinds.specs.Limits.{noPivot, lastMinute};
 ghost use Rattle.journeys.specs.Tables.{Side};
 ghost use Rattle.tables.specs.File.{tablesOf, labelsOf};
 ghost use Rattle.tables.specs.Good.{Room};
 ghost use Rattle.pieces.specs.Seek.{PastLabel, Past, AtLabel};
-ghost use Rattle.timetable.specs.Numbers.{GoodNumbers};
-ghost use Rattle.pieces.specs.Pieces.{Ready, SetAt, SoughtIn, SoughtAs, SpanParts, PartedAs, IsRun, RunIs};
+ghost use Rattle.ground.specs.Ground.{Ready, ByDeparture};
+ghost use Rattle.pieces.specs.Pieces.{SetAt, SoughtIn, SoughtAs, SpanIn, PartedAs, RunIs};
 
 // A label by its ends, its minutes and its pivot (Label::NO_PIVOT for none). A pair of labels that meet at a stop is one too, with that
 // stop for its pivot.
@@ -95,13 +94,34 @@ pub fn seek(tables: &[u8], n: u16, from: usize, to: usize, hub: u16, m: Moment) 
     k
 }
 
+// The same in one set, whose bounds are given: those of its labels that come at or after the place are its last ones, so that the stretch
+// in which the place lies can be halved at each turn.
+fn place_in(tables: &[u8], n: u16, from: usize, to: usize, hub: u16, m: Moment) -> usize
+    requires { ⌜ Room (now tables) n ⌝ }
+    requires { ⌜ (from ≤ to) × (to ≤ labelsOf (now tables)) ⌝ }
+    ensures { λ r. ⌜ ((side : Side) (s : ℕ) → SetAt (now (tables .entry)) n side s from to → FirstAt (Past (tablesOf (now (tables .entry))) hub m) from to r) ⌝ }
+{
+    let mut low = from;
+    let mut high = to;
+    while low < high {
+        let mid = (low + high) / 2;
+        let l = tables::label_at(tables, n, mid);
+        if is_past(l, hub, m) {
+            high = mid;
+        } else {
+            low = mid + 1;
+        }
+    }
+    low
+}
+
 // The label with this hub and this moment in one set, whose bounds are given.
 fn find_in(tables: &[u8], n: u16, from: usize, to: usize, hub: u16, m: Moment) -> Sought
     requires { ⌜ Room (now tables) n ⌝ }
     requires { ⌜ (from ≤ to) × (to ≤ labelsOf (now tables)) ⌝ }
     ensures { λ r. ⌜ ((side : Side) (s : ℕ) → SetAt (now (tables .entry)) n side s from to → SoughtIn (tablesOf (now (tables .entry))) side s hub m r) ⌝ }
 {
-    let k = seek(tables, n, from, to, hub, m);
+    let k = place_in(tables, n, from, to, hub, m);
     if to <= k {
         return Sought::Missing;
     }
@@ -112,14 +132,6 @@ fn find_in(tables: &[u8], n: u16, from: usize, to: usize, hub: u16, m: Moment) -
     Sought::Missing
 }
 
-// Where a set starts. The starts of all sets, and behind them the number of labels, are in `starts`.
-pub fn start_at(starts: &[u16], set: usize) -> usize
-    requires { ⌜ set < length (now starts) ⌝ }
-    ensures { λ r. ⌜ r ≡ getD (now (starts .entry)) set 0 ⌝ }
-{
-    starts[set] as usize
-}
-
 // The label u to v with this moment: an out-label of u with hub v, or an in-label of v with hub u.
 pub fn find(tables: &[u8], n: u16, starts: &[u16], u: u16, v: u16, m: Moment) -> Sought
     requires { ⌜ Ready (now tables) n (now starts) ⌝ }
@@ -128,13 +140,13 @@ pub fn find(tables: &[u8], n: u16, starts: &[u16], u: u16, v: u16, m: Moment) ->
 {
     if v < u {
         let set = 2 * (u as usize);
-        let from = start_at(starts, set);
-        let to = start_at(starts, set + 1);
+        let from = ground::start_at(starts, set);
+        let to = ground::start_at(starts, set + 1);
         return find_in(tables, n, from, to, v, m);
     }
     let set = 2 * (v as usize) + 1;
-    let from = start_at(starts, set);
-    let to = start_at(starts, set + 1);
+    let from = ground::start_at(starts, set);
+    let to = ground::start_at(starts, set + 1);
     find_in(tables, n, from, to, u, m)
 }
 
@@ -142,7 +154,8 @@ pub fn find(tables: &[u8], n: u16, starts: &[u16], u: u16, v: u16, m: Moment) ->
 // the same minute, if they meet.
 pub fn halves(tables: &[u8], n: u16, starts: &[u16], s: Span) -> Parted
     requires { ⌜ Ready (now tables) n (now starts) ⌝ }
-    requires { ⌜ SpanParts n s ⌝ }
+    requires { ⌜ SpanIn n s ⌝ }
+    requires { ⌜ (s .pivot ≡ noPivot → ⊥) ⌝ }
     ensures { λ r. ⌜ PartedAs (tablesOf (now (tables .entry))) s r ⌝ }
 {
     let first = find(tables, n, starts, s.from, s.pivot, Moment::Leaving(s.dep));
@@ -168,36 +181,20 @@ pub fn halves(tables: &[u8], n: u16, starts: &[u16], s: Span) -> Parted
     }
 }
 
-fn is_run(run: Run, s: Span) -> bool
-    ensures { λ r. ⌜ Tells (IsRun run s) r ⌝ }
-{
-    if run.from != s.from {
-        return false;
-    }
-    if run.to != s.to {
-        return false;
-    }
-    if run.dep != s.dep {
-        return false;
-    }
-    if run.arr != s.arr {
-        return false;
-    }
-    true
-}
-
 // The lowest-numbered run with these ends and minutes, or the number of runs.
-pub fn find_run(runs: &[u32], count: usize, s: Span) -> usize
-    requires { ⌜ ((stops : ℕ) × GoodNumbers stops count (now runs)) ⌝ }
+pub fn find_run(runs: &[u32], count: usize, room: &[u16], s: Span) -> usize
+    requires { ⌜ ((n : ℕ) × ByDeparture n (now room) (now runs) count) ⌝ }
+    requires { ⌜ s .dep ≤ lastMinute ⌝ }
     ensures { λ r. ⌜ FirstAt (RunIs (now (runs .entry)) s) 0 count r ⌝ }
 {
-    let mut i = 0;
-    while i < count {
-        let run = timetable::run_at(runs, i);
-        if is_run(run, s) {
-            return i;
-        }
-        i += 1;
-    }
-    i
+    let behind = ground::STARTS;
+    departures::find(
+        runs,
+        count,
+        &room[behind..],
+        s.from,
+        s.to,
+        s.dep,
+        s.arr,
+    )
 }

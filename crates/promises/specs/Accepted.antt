@@ -30,8 +30,10 @@ use Rattle.asks.specs.Asks.{askRead, ifTables, asked, Answers}
 use Rattle.asks.specs.AskLaws.{ask-good}
 use Rattle.verdict.specs.declared.Verdict.{Verdict}
 use Rattle.verdict.specs.declared.Verdict.the-variants as verdict
-use Rattle.verdict.specs.Verdict.{checkRoom, judgedBoth, Outcome, Answered, Checked}
-use Rattle.verdict.specs.VerdictLaws.{accepted-tables, accepts, both-good}
+use Rattle.ground.specs.Ground.{groundRoom, judgedBoth}
+use Rattle.ground.specs.GroundLaws.{both-good}
+use Rattle.verdict.specs.Verdict.{Outcome, Answered, Checked}
+use Rattle.verdict.specs.VerdictLaws.{accepted-tables, accepts}
 use Rattle.promises.specs.Demands.{TimetableAnswers, CheckedAsk, TimetableLists, CheckedRides}
 use Rattle.loops.specs.Zero.{zeros}
 use Rattle.rides.specs.declared.RidesAnswer.{RidesAnswer}
@@ -64,7 +66,7 @@ accepted-asks b stops count list lent c from to w x f =
 
 -- "refusals 19 and 20 name a real fault": the label has no support; there is a journey from the run's stop to that stop which the tables miss
 pub unsupported-named : (b : List ℕ) (stops count : ℕ) (list : List ℕ) (lent k : ℕ) {n : ℕ} →
-    judgedBoth (judgedTables b) (judgedOf stops count list lent checkRoom) stops ≡ tables.Good n →
+    judgedBoth (judgedTables b) (judgedOf stops count list lent groundRoom) stops ≡ tables.Good n →
     the.UnsupportedFirst (serviceOf stops count list) (tablesOf b) k → Unsupported (serviceOf stops count list) (tablesOf b) k
 unsupported-named b stops count list lent k {n} e u =
     let g = both-good b stops count list lent n e in
@@ -72,13 +74,13 @@ unsupported-named b stops count list lent k {n} e u =
     unsupported-real (good-service s) (good-tables (g .file)) (u .fault)
 
 pub gap-named : (b : List ℕ) (stops count : ℕ) (list : List ℕ) (lent i v : ℕ) {n : ℕ} →
-    judgedBoth (judgedTables b) (judgedOf stops count list lent checkRoom) stops ≡ tables.Good n →
+    judgedBoth (judgedTables b) (judgedOf stops count list lent groundRoom) stops ≡ tables.Good n →
     the.GapFirst (serviceOf stops count list) (tablesOf b) i v → Missed (serviceOf stops count list) (tablesOf b) i v
 gap-named b stops count list lent i v {n} e u = gap-real (good-tables (both-good b stops count list lent n e .file)) (u .supported) (u .fault)
 
 -- "the rule's own tables are always accepted"
 pub rule-accepted : (b : List ℕ) (stops count : ℕ) (list : List ℕ) (lent : ℕ) {n : ℕ} (r : Verdict) →
-    judgedBoth (judgedTables b) (judgedOf stops count list lent checkRoom) stops ≡ tables.Good n → ByRule (serviceOf stops count list) (tablesOf b) →
+    judgedBoth (judgedTables b) (judgedOf stops count list lent groundRoom) stops ≡ tables.Good n → ByRule (serviceOf stops count list) (tablesOf b) →
     Checked b stops count list lent r → r ≡ verdict.Accepted
 rule-accepted b stops count list lent {n} r e R c =
     let g = both-good b stops count list lent n e in

@@ -35,10 +35,11 @@ use Rattle.builder.specs.declared.BuildAnswer.the-variants as build
 use Rattle.builder.specs.Build.{buildRoom, RuleFile, BuiltOf, over, short, built, BuildOf, refused, good}
 use Rattle.verdict.specs.declared.Verdict.{Verdict}
 use Rattle.verdict.specs.declared.Verdict.the-variants as verdict
-use Rattle.verdict.specs.Verdict.{checkRoom, judgedBoth, Checked}
+use Rattle.ground.specs.Ground.{groundRoom, judgedBoth}
+use Rattle.verdict.specs.Verdict.{Checked}
 use Rattle.rides.specs.declared.RidesAnswer.{RidesAnswer}
 use Rattle.rides.specs.declared.RidesAnswer.the-variants as rides
-use Rattle.rides.specs.Lists.{ridesRoom, ridesAsked, Lists}
+use Rattle.rides.specs.Lists.{ridesAsked, Lists}
 use Rattle.promises.specs.Demands.{TimetableAnswers, TimetableLists, Serves, BuiltAsk, BuiltRides}
 use Rattle.promises.specs.Accepted.{truly, asked-apart, rule-accepted, lists-truly}
 
@@ -55,7 +56,7 @@ good-in stops count list lent needed lent′ needed′ e h =
 
 module _ (stops count : ℕ) (list file : List ℕ) (F : RuleFile (serviceOf stops count list) file) where
   -- what the builder writes is accepted by the check
-  pub built-accepted : (lent : ℕ) → judgedOf stops count list lent checkRoom ≡ numbers.Good → (r : Verdict) → Checked file stops count list lent r → r ≡ verdict.Accepted
+  pub built-accepted : (lent : ℕ) → judgedOf stops count list lent groundRoom ≡ numbers.Good → (r : Verdict) → Checked file stops count list lent r → r ≡ verdict.Accepted
   built-accepted lent e r c =
       rule-accepted file stops count list lent {n = serviceOf stops count list .stops} r
       (rw (F .good, e, eq-eqb (serviceOf stops count list .stops) stops (service-stops stops count list)) refl) (F .rule) c
@@ -83,7 +84,7 @@ module _ (stops count : ℕ) (list file : List ℕ) (F : RuleFile (serviceOf sto
   unfolding asked
   asked-is from to w = rw file-stops refl
 
-  rides-asked-is : (lent from to : ℕ) (w : Wanted) → judgedOf stops count list lent ridesRoom ≡ numbers.Good → ridesAsked file stops count list lent from to w ≡ askRead stops from to w
+  rides-asked-is : (lent from to : ℕ) (w : Wanted) → judgedOf stops count list lent groundRoom ≡ numbers.Good → ridesAsked file stops count list lent from to w ≡ askRead stops from to w
   unfolding ridesAsked
   rides-asked-is lent from to w e = rw (file-stops, e, eq-eqb stops stops refl) refl
 
@@ -92,10 +93,10 @@ module _ (stops count : ℕ) (list file : List ℕ) (F : RuleFile (serviceOf sto
   file-serves work e =
       let g = given.judged-good stops count list work buildRoom e .0 in
       record {
-        accepted = λ lent h r c. built-accepted lent (good-in stops count list work buildRoom lent checkRoom e h) r c;
+        accepted = λ lent h r c. built-accepted lent (good-in stops count list work buildRoom lent groundRoom e h) r c;
         asks = λ from to w x f. subst (λ q. TimetableAnswers (serviceOf stops count list) q x) (asked-is from to w) (built-asks g from to w x f);
         rides = λ lent from to w before after x h f.
-            subst (λ q. TimetableLists (serviceOf stops count list) q before after x) (rides-asked-is lent from to w (good-in stops count list work buildRoom lent ridesRoom e h))
+            subst (λ q. TimetableLists (serviceOf stops count list) q before after x) (rides-asked-is lent from to w (good-in stops count list work buildRoom lent groundRoom e h))
             (built-rides g lent from to w before after x f);
       }
 

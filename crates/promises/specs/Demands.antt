@@ -13,7 +13,8 @@ use Rattle.asks.specs.Asks.{askRead, asked, AnswersBy, Answers}
 use Rattle.verdict.specs.declared.Verdict.{Verdict}
 use Rattle.verdict.specs.declared.Verdict.the-variants as verdict
 use Rattle.timetable.specs.Numbers.{serviceOf}
-use Rattle.verdict.specs.Verdict.{checkRoom, Checked}
+use Rattle.ground.specs.Ground.{groundRoom}
+use Rattle.verdict.specs.Verdict.{Checked}
 use Rattle.loops.specs.Zero.{zeros}
 use Rattle.rides.specs.declared.RidesAnswer.{RidesAnswer}
 use Rattle.rides.specs.declared.RidesAnswer.the-variants as rides
@@ -21,7 +22,7 @@ use Rattle.tables.specs.File.{tablesOf}
 use Rattle.builder.specs.declared.BuildAnswer.{BuildAnswer}
 use Rattle.builder.specs.declared.BuildAnswer.the-variants as build
 use Rattle.builder.specs.Build.{BuildOf}
-use Rattle.rides.specs.Lists.{ridesRoom, ridesAsked, Lists}
+use Rattle.rides.specs.Lists.{ridesAsked, Lists}
 use Rattle.rides.specs.Accepted.{TrulyLists}
 
 -- "every ask gets the timetable's best": the best among all journeys, or 16 exactly when there is none; what is out of order is refused as it must be
@@ -56,9 +57,9 @@ pub record CheckedRides (b : List ℕ) (stops count : ℕ) (list : List ℕ) (le
 -- Demand 2, of a file: the check accepts it; and over it every ask, with and without rides, gets the timetable's best. Which asks are out of
 -- order is said by the stop count alone.
 pub record Serves (stops count : ℕ) (list file : List ℕ) : Type 0 where
-  pub accepted : (lent : ℕ) → checkRoom ≤ lent → (r : Verdict) → Checked file stops count list lent r → r ≡ verdict.Accepted
+  pub accepted : (lent : ℕ) → groundRoom ≤ lent → (r : Verdict) → Checked file stops count list lent r → r ≡ verdict.Accepted
   pub asks : (from to : ℕ) (w : Wanted) (x : Answer) → Answers (tablesOf file) (asked file from to w) x → TimetableAnswers (serviceOf stops count list) (askRead stops from to w) x
-  pub rides : (lent from to : ℕ) (w : Wanted) (before after : List ℕ) (x : RidesAnswer) → ridesRoom ≤ lent →
+  pub rides : (lent from to : ℕ) (w : Wanted) (before after : List ℕ) (x : RidesAnswer) → groundRoom ≤ lent →
       Lists (serviceOf stops count list) (tablesOf file) (ridesAsked file stops count list lent from to w) before after x →
       TimetableLists (serviceOf stops count list) (askRead stops from to w) before after x
 

@@ -1,13 +1,10 @@
 -- The three asks with rides: what is refused, what is answered, and what the lent list then holds.
-use Prim.Native.Nat.{ℕ, _+_, _*_, _-_, _≤_, _<_}
+use Prim.Native.Nat.{ℕ, _-_, _≤_, _<_}
 use mathlib.Core.Path.{_≡_}
 use mathlib.Core.List.{List, _++_}
 use lib.ListN.{length, replicate}
-use lib.Dec.{eqb}
-use Rattle.loops.specs.Unless.{unless}
 use Rattle.loops.specs.Zero.{zeros}
-use Rattle.kinds.specs.Limits.{mostStops}
-use Rattle.kinds.specs.Refusals.{noJourney, roomShort, ridesMissing, stopsDiffer, refusal}
+use Rattle.kinds.specs.Refusals.{noJourney, roomShort, ridesMissing, refusal}
 use Rattle.kinds.specs.declared.Refusal.{Refusal}
 use Rattle.journeys.specs.Service.{Service}
 use Rattle.journeys.specs.Criteria.{Best, Nothing}
@@ -15,30 +12,20 @@ use Rattle.journeys.specs.Tables.{Tables, Sketch}
 use Rattle.journeys.specs.Rides.{Chosen}
 use Rattle.tables.specs.Judged.{judgedTables}
 use Rattle.timetable.specs.Numbers.{judgedOf}
-use Rattle.timetable.specs.declared.Judged.{Judged}
-use Rattle.timetable.specs.declared.Judged.the-variants as numbers
 use Rattle.asks.specs.declared.Wanted.{Wanted}
 use Rattle.asks.specs.declared.Asked.{Asked}
 use Rattle.asks.specs.declared.AskRead.{AskRead}
 use Rattle.asks.specs.declared.AskRead.the-variants as ask
 use Rattle.asks.specs.Asks.{ifTables, askRead}
+use Rattle.ground.specs.Ground.{groundRoom, judgedBoth}
 use Rattle.rides.specs.declared.Listed.{Listed}
 use Rattle.rides.specs.declared.RidesAnswer.{RidesAnswer}
 use Rattle.rides.specs.declared.RidesAnswer.the-variants.{At, No}
 
--- "Working room for any call is a fixed size": two sets a stop, and one number more
-abbrev pub ridesRoom : ℕ
-ridesRoom = 2 * mostStops + 1
-
--- "With rides: after 11 those of the timetable numbers and 21"; the working room's 17 "stands with the timetable's 17"
-abbrev pub ifNumbers : Judged → AskRead → AskRead
-ifNumbers numbers.Good rest = rest
-ifNumbers (numbers.No r) rest = ask.No r
-
+-- "With rides: after 11 those of the timetable numbers and 21", then the ask's; the working room's 17 "stands with the timetable's 17"
 unfoldable pub ridesAsked : List ℕ → ℕ → ℕ → List ℕ → ℕ → ℕ → ℕ → Wanted → AskRead
 ridesAsked b stops count runs lent from to w =
-    ifTables (judgedTables b) (λ n. ifNumbers (judgedOf stops count runs lent ridesRoom)
-    (unless (eqb n stops) (ask.No (refusal stopsDiffer 0)) (askRead n from to w)))
+    ifTables (judgedBoth (judgedTables b) (judgedOf stops count runs lent groundRoom) stops) (λ n. askRead n from to w)
 
 -- "The answer over the tables is the best sketch"; its rides are listed, "it is the number of rides listed", and "After success, room beyond
 -- what was written is zero"

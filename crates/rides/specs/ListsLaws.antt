@@ -1,23 +1,15 @@
 -- Laws of the asks with rides, for the functions that answer them: what a good ask has, what is listed, and that no second answer and no
 -- second list meet the contract.
-use Prim.Native.Nat.{ℕ, _+_, _*_, _-_, _≤_, _<_}
+use Prim.Native.Nat.{ℕ, _-_, _≤_, _<_}
 use mathlib.Core.Path.{_≡_, refl, sym, ap, subst, subst₂, _∙_}
 use mathlib.Core.List.{List, _++_}
-use mathlib.Core.Bool.{Bool, true, false}
 use native.Mathlib.Omega.{arith}
-use lib.ListN.{length, getD, replicate}
-use lib.Dec.{eqb}
-use borrow.Author.Tests.{eqb-true}
-use Rattle.loops.specs.Chain.{stays}
-use Rattle.loops.specs.Unless.{unless}
+use lib.ListN.{length, replicate}
 use Rattle.loops.specs.Zero.{zeros}
 use Rattle.loops.specs.ZeroLaws.{length-zeros}
-use Rattle.loops.specs.Filled.{filled}
-use Rattle.loops.specs.FilledLaws.{length-filled, filled-at}
 use Rattle.loops.specs.Written.{written}
 use Rattle.loops.specs.WrittenLaws.{written-zeros}
 use Rattle.kinds.specs.Limits.{lastMinute}
-use Rattle.kinds.specs.Refusals.{stopsDiffer, refusal}
 use Rattle.kinds.specs.declared.Refusal.{Refusal}
 use Rattle.journeys.specs.Service.{Service}
 use Rattle.journeys.specs.Criteria.{Best}
@@ -28,27 +20,24 @@ use Rattle.journeys.specs.SketchLaws.{sketch-last}
 use Rattle.journeys.specs.RidesLaws.{chosen-one, chosen-short}
 use Rattle.tables.specs.declared.TablesRead.{TablesRead}
 use Rattle.tables.specs.declared.TablesRead.the-variants as tables
-use Rattle.tables.specs.File.{startOf, tablesOf}
+use Rattle.tables.specs.File.{tablesOf}
 use Rattle.tables.specs.Judged.{judgedTables}
 use Rattle.tables.specs.Good.{GoodFile}
-use Rattle.tables.specs.GoodLaws as tables-laws
 use Rattle.tables.specs.TablesLaws.{good-tables}
 use Rattle.timetable.specs.Numbers.{serviceOf, judgedOf, GoodNumbers}
-use Rattle.timetable.specs.NumbersLaws as numbers-laws
-use Rattle.timetable.specs.declared.Judged.{Judged}
-use Rattle.timetable.specs.declared.Judged.the-variants as numbers
 use Rattle.asks.specs.declared.Wanted.{Wanted}
 use Rattle.asks.specs.declared.Asked.{Asked}
 use Rattle.asks.specs.declared.AskRead.{AskRead}
 use Rattle.asks.specs.declared.AskRead.the-variants as ask
 use Rattle.asks.specs.Asks.{ifTables, askRead}
 use Rattle.asks.specs.AskLaws.{GoodAsk, ask-good}
-use Rattle.pieces.specs.Pieces.{Ready}
+use Rattle.ground.specs.Ground.{groundRoom, judgedBoth}
+use Rattle.ground.specs.GroundLaws.{BothGood, both-good}
 use Rattle.opening.specs.Opening as opening
 use Rattle.rides.specs.declared.Listed.{Listed}
 use Rattle.rides.specs.declared.RidesAnswer.{RidesAnswer}
 use Rattle.rides.specs.declared.RidesAnswer.the-variants.{At, No}
-use Rattle.rides.specs.Lists.{ridesRoom, ifNumbers, ridesAsked, ListedAs, RefusedAs, no-journey, missing, short, Lists}
+use Rattle.rides.specs.Lists.{ridesAsked, ListedAs, RefusedAs, no-journey, missing, short, Lists}
 
 -- ---- an ask that is not refused
 
@@ -56,35 +45,24 @@ use Rattle.rides.specs.Lists.{ridesRoom, ifNumbers, ridesAsked, ListedAs
 pub record Asking (b : List ℕ) (stops count : ℕ) (runs : List ℕ) (lent : ℕ) (q : Asked) : Type 0 where
   pub file : GoodFile b stops
   pub numbers : GoodNumbers stops count runs
-  pub room : ridesRoom ≤ lent
+  pub room : groundRoom ≤ lent
   pub good : GoodAsk stops q
 
 module _ (b : List ℕ) (stops count : ℕ) (runs : List ℕ) (lent from to : ℕ) (w : Wanted) (q : Asked) where
   pub asked-good : ridesAsked b stops count runs lent from to w ≡ ask.Good q → Asking b stops count runs lent q
   unfolding ridesAsked
-  asked-good e = go (judgedTables b) (judgedOf stops count runs lent ridesRoom) (tables-laws.judged-good b) (numbers-laws.judged-good stops count runs lent ridesRoom) e
+  asked-good e = go (judgedBoth (judgedTables b) (judgedOf stops count runs lent groundRoom) stops) (both-good b stops count runs lent) e
     where
-      go : (t : TablesRead) (j : Judged) → ((n : ℕ) → t ≡ tables.Good n → GoodFile b n) → (j ≡ numbers.Good → GoodNumbers stops count runs × (ridesRoom ≤ lent)) →
-          ifTables t (λ n. ifNumbers j (unless (eqb n stops) (ask.No (refusal stopsDiffer 0)) (askRead n from to w))) ≡ ask.Good q → Asking b stops count runs lent q
-      go (tables.No r) j f g h = let z : _≡_ {A = ℕ} 0 1 = cc in absurd (omega arith)
-      go (tables.Good n) (numbers.No r) f g h = let z : _≡_ {A = ℕ} 0 1 = cc in absurd (omega arith)
-      go (tables.Good n) numbers.Good f g h =
-          let s = stays (eqb n stops) h (λ x. let y : _≡_ {A = ℕ} 0 1 = cc in omega arith) in
-          let i = eqb-true n stops (s .0) in
+      go : (t : TablesRead) → ((n : ℕ) → t ≡ tables.Good n → BothGood b stops count runs lent n) → ifTables t (λ n. askRead n from to w) ≡ ask.Good q → Asking b stops count runs lent q
+      go (tables.No r) f h = let z : _≡_ {A = ℕ} 0 1 = cc in absurd (omega arith)
+      go (tables.Good n) f h =
+          let g = f n refl in
           record {
-            file = subst (GoodFile b) i (f n refl);
-            numbers = g refl .0;
-            room = g refl .1;
-            good = subst (λ m. GoodAsk m q) i (ask-good n from to w q (s .1));
+            file = subst (GoodFile b) (g .same) (g .file);
+            numbers = subst (λ m. GoodNumbers m count runs) (g .same) (g .numbers);
+            room = g .room;
+            good = subst (λ m. GoodAsk m q) (g .same) (ask-good n from to w q h);
           }
-
--- the starts that are written into the working room
-pub ready-of : {b : List ℕ} {n : ℕ} (room : List ℕ) {s : List ℕ} → GoodFile b n → 2 * n + 1 ≤ length room → s ≡ filled (startOf b) (2 * n + 1) room → Ready b n s
-ready-of {b} {n} room G h e = rw e (record {
-  file = G;
-  long = omega (arith, length-filled (startOf b) (2 * n + 1) room);
-  are = λ set le. filled-at (startOf b) (2 * n + 1) room set (omega arith) h;
-})
 
 -- ---- what is listed
 

@@ -5,10 +5,8 @@ use asks::Found;
 use asks::Journey;
 use asks::Wanted;
 use kinds::Refusal;
-use kinds::Stop;
 use opening::Opened;
 use tables::TablesRead;
-use timetable::Judged;
 ghost use mathlib.Core.Path.{_≡_};
 ghost use Prim.Native.Nat.{ℕ, _≤_, _<_};
 ghost use lib.ListN.{length};
@@ -20,8 +18,8 @@ ghost use Rattle.timetable.specs.Numbers.{serviceOf};
 ghost use Rattle.asks.specs.declared.AskRead.the-variants as ask;
 ghost use Rattle.asks.specs.declared.Wanted.the-variants as wanted;
 ghost use Rattle.asks.specs.AskLaws.{GoodAsk};
-ghost use Rattle.opening.specs.Opening.{Ground};
-ghost use Rattle.rides.specs.Lists.{ridesRoom, ridesAsked, Lists};
+ghost use Rattle.ground.specs.Ground.{Ground};
+ghost use Rattle.rides.specs.Lists.{ridesAsked, Lists};
 
 // A journey by its time pair, and how many rides it has.
 pub struct Listed {
@@ -34,18 +32,6 @@ pub struct Listed {
 pub enum RidesAnswer {
     At(Listed),
     No(Refusal),
-}
-
-impl Listed {
-    // Working room, counted in numbers: the starts of two sets a stop, and behind them the number of labels.
-    pub const ROOM: usize = 2 * Stop::MOST + 1;
-
-    pub fn room() -> usize
-        ensures { λ r. do ⌜ r ≡ (← ⟦Listed::ROOM⟧ .entry) ⌝ }
-        ensures { λ r. ⌜ r ≡ ridesRoom ⌝ }
-    {
-        Listed::ROOM
-    }
 }
 
 // 9, 10, 11; the timetable's 8, 17, 5, 6, 7; 21; then 12, 13, 14, 15.
@@ -61,21 +47,10 @@ fn judge(
 ) -> AskRead
     ensures { λ r. ⌜ r ≡ ridesAsked (now (tables .entry)) stops «run_count» (now (runs .entry)) lent from to w ⌝ }
 {
-    let read = tables::judge(tables);
+    let read = ground::judge(tables, stops, run_count, runs, lent);
     match read {
         TablesRead::No(r) => AskRead::No(r),
-        TablesRead::Good(n) => {
-            let judged = timetable::judge(stops, run_count, runs, lent, Listed::ROOM);
-            match judged {
-                Judged::No(r) => AskRead::No(r),
-                Judged::Good => {
-                    if (n as u32) != stops {
-                        return AskRead::No(Refusal::new(Refusal::STOPS_DIFFER, 0));
-                    }
-                    asks::judge_ask(n, from, to, w)
-                }
-            }
-        }
+        TablesRead::Good(n) => asks::judge_ask(n, from, to, w),
     }
 }
 
@@ -83,14 +58,14 @@ fn judge(
 fn list_pair(
     tables: &[u8],
     n: u16,
-    starts: &[u16],
+    room: &[u16],
     runs: &[u32],
     count: usize,
     q: Asked,
     j: Journey,
     list: &mut [u32],
 ) -> RidesAnswer
-    requires { ⌜ Ground (now tables) n (now starts) (now runs) count ⌝ }
+    requires { ⌜ Ground (now tables) n (now room) (now runs) count ⌝ }
     requires { ⌜ GoodAsk n q ⌝ }
     requires { ⌜ Best (Sketch (tablesOf (now tables)) (q .from) (q .to)) (q .criterion) (j .dep) (j .arr) ⌝ }
     requires { ⌜ now list ≡ zeros (now list) ⌝ }
@@ -99,7 +74,7 @@ fn list_pair(
     let opened = opening::open_answer(
         tables,
         n,
-        starts,
+        room,
         runs,
         count,
         q.from,
@@ -128,13 +103,13 @@ fn list_pair(
 fn list_best(
     tables: &[u8],
     n: u16,
-    starts: &[u16],
+    room: &[u16],
     runs: &[u32],
     count: usize,
     q: Asked,
     list: &mut [u32],
 ) -> RidesAnswer
-    requires { ⌜ Ground (now tables) n (now starts) (now runs) count ⌝ }
+    requires { ⌜ Ground (now tables) n (now room) (now runs) count ⌝ }
     requires { ⌜ GoodAsk n q ⌝ }
     requires { ⌜ now list ≡ zeros (now list) ⌝ }
     ensures { λ r. ⌜ Lists (serviceOf n count (now (runs .entry))) (tablesOf (now (tables .entry))) (ask.Good q) (now (list .entry)) (now (list .exit)) r ⌝ }
@@ -142,7 +117,7 @@ fn list_best(
     let found = asks::best_sketch(tables, n, q);
     match found {
         Found::Nothing => RidesAnswer::No(Refusal::new(Refusal::NO_JOURNEY, 0)),
-        Found::Pair(j) => list_pair(tables, n, starts, runs, count, q, j, list),
+        Found::Pair(j) => list_pair(tables, n, room, runs, count, q, j, list),
     }
 }
 
@@ -172,8 +147,9 @@ pub fn answered(
         }
         AskRead::Good(q) => {
             let n = stops as u16;
-            tables::starts(tables, n, work);
-            let answer = list_best(tables, n, work, runs, run_count as usize, q, list);
+            let count = run_count as usize;
+            ground::prepare(tables, n, runs, count, work);
+            let answer = list_best(tables, n, work, runs, count, q, list);
             loops::zero_u16(work);
             answer
         }

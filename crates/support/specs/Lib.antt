@@ -1,6 +1,2 @@
-pub mod Ready
-pub mod Search
-pub mod SearchLaws
-pub mod SupportLaws
-pub mod Ways
-pub mod WayLaws
+pub mod Spans
+pub mod SpanLaws

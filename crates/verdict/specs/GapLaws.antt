@@ -18,7 +18,7 @@ use Rattle.tables.specs.File.{tablesOf}
 use Rattle.tables.specs.TablesLaws.{good-tables}
 use Rattle.timetable.specs.Numbers.{runAt, serviceOf, RunGood, GoodNumbers}
 use Rattle.timetable.specs.NumbersLaws.{service-slots, service-ride, service-ride-at}
-use Rattle.support.specs.SearchLaws.{ready-stops}
+use Rattle.ground.specs.GroundLaws.{ready-stops}
 use Rattle.verdict.specs.Early.{Arrival, Early}
 use Rattle.verdict.specs.EarlyLaws.{early-arrival, gap-here, gap-on}
 use Rattle.verdict.specs.Gaps.{NoGapOf, Compared, FirstGap}

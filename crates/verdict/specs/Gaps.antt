@@ -9,7 +9,7 @@ use Rattle.journeys.specs.Service.{Service}
 use Rattle.journeys.specs.Tables.{Tables, outs}
 use Rattle.journeys.specs.Check.{NoGap, NoGapAt, NoGaps}
 use Rattle.tables.specs.File.{tablesOf}
-use Rattle.support.specs.Ready.{Ready}
+use Rattle.ground.specs.Ground.{Ready}
 use Rattle.verdict.specs.declared.Gap.{Gap}
 use Rattle.verdict.specs.declared.Gap.the-variants.{At, Nothing}
 use Rattle.verdict.specs.Early.{Reached}

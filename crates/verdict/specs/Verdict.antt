@@ -1,11 +1,8 @@
 -- What the check answers.
-use Prim.Native.Nat.{ℕ, _+_, _*_}
+use Prim.Native.Nat.{ℕ}
 use mathlib.Core.Path.{_≡_}
 use mathlib.Core.List.{List}
-use lib.Dec.{eqb}
-use Rattle.loops.specs.Unless.{unless}
-use Rattle.kinds.specs.Limits.{mostStops}
-use Rattle.kinds.specs.Refusals.{refusal, unsupported, gap, stopsDiffer}
+use Rattle.kinds.specs.Refusals.{refusal, unsupported, gap}
 use Rattle.kinds.specs.declared.Refusal.{Refusal}
 use Rattle.journeys.specs.Service.{Service}
 use Rattle.journeys.specs.Tables.{Tables}
@@ -14,21 +11,10 @@ use Rattle.tables.specs.declared.TablesRead.{TablesRead}
 use Rattle.tables.specs.declared.TablesRead.the-variants as tables
 use Rattle.tables.specs.File.{tablesOf}
 use Rattle.tables.specs.Judged.{judgedTables}
-use Rattle.timetable.specs.declared.Judged.{Judged}
-use Rattle.timetable.specs.declared.Judged.the-variants as numbers
 use Rattle.timetable.specs.Numbers.{judgedOf, serviceOf}
+use Rattle.ground.specs.Ground.{groundRoom, judgedBoth}
 use Rattle.verdict.specs.declared.Verdict.{Verdict}
 use Rattle.verdict.specs.declared.Verdict.the-variants.{Accepted, No}
-
--- "Working room for any call is a fixed size": the starts of all sets, and the number of labels
-abbrev pub checkRoom : ℕ
-checkRoom = 2 * mostStops + 1
-
--- "Check: 9, 10, 11, the timetable's, 21": what is refused before tables and timetable are compared, or the stop count of both
-abbrev pub judgedBoth : TablesRead → Judged → ℕ → TablesRead
-judgedBoth (tables.No x) j stops = tables.No x
-judgedBoth (tables.Good n) (numbers.No x) stops = tables.No x
-judgedBoth (tables.Good n) numbers.Good stops = unless (eqb n stops) (tables.No (refusal stopsDiffer 0)) (tables.Good n)
 
 -- 20 has two places: "run, stop"
 abbrev pub gapRefusal : ℕ → ℕ → Refusal
@@ -45,7 +31,7 @@ abbrev pub Answered : TablesRead → Service → Tables → Verdict → Type 0
 Answered (tables.No x) S T r = r ≡ No x
 Answered (tables.Good n) S T r = Outcome S T r
 
--- r is the check's answer to these bytes and numbers, with so much working room lent
+-- r is the check's answer to these bytes and numbers, with so much working room lent: "Check: 9, 10, 11, the timetable's, 21, 19, 20."
 abbrev pub Checked : List ℕ → ℕ → ℕ → List ℕ → ℕ → Verdict → Type 0
 Checked b stops count list lent r =
-    Answered (judgedBoth (judgedTables b) (judgedOf stops count list lent checkRoom) stops) (serviceOf stops count list) (tablesOf b) r
+    Answered (judgedBoth (judgedTables b) (judgedOf stops count list lent groundRoom) stops) (serviceOf stops count list) (tablesOf b) r

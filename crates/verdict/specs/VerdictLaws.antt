@@ -1,18 +1,12 @@
 -- The check has one answer, and accepts exactly what is to be accepted; and what its steps say of its answer.
-use Prim.Native.Nat.{ℕ, _+_, _*_, _≤_, _<_}
+use Prim.Native.Nat.{ℕ, _≤_, _<_}
 use mathlib.Core.Path.{_≡_, refl, sym, ap, subst, subst₂, _∙_}
 use mathlib.Core.Logic.{_↔_}
 use mathlib.Core.List.{List}
 use mathlib.Core.Option.{Option}
 use native.Mathlib.Omega.{arith}
 use native.Mathlib.Decide.{decLt}
-use lib.ListN.{length, getD}
-use lib.Dec.{eqb}
-use borrow.Author.Tests.{eqb-true}
-use Rattle.loops.specs.Chain.{stays}
 use Rattle.loops.specs.Fails.{FailsAt}
-use Rattle.loops.specs.Filled.{filled}
-use Rattle.loops.specs.FilledLaws.{length-filled, filled-at}
 use Rattle.kinds.specs.Refusals.{refusal, unsupported}
 use Rattle.journeys.specs.Service.{Service}
 use Rattle.journeys.specs.Tables.{Tables, outs, ins, LabelAt, of-out, of-in}
@@ -20,20 +14,17 @@ use Rattle.journeys.specs.Check as the
 use Rattle.journeys.specs.Check.{SupportedAt, AllSupported, UnsupportedFirst, GapFirst}
 use Rattle.tables.specs.declared.TablesRead.{TablesRead}
 use Rattle.tables.specs.declared.TablesRead.the-variants as tables
-use Rattle.tables.specs.File.{tablesOf, startOf, labelsOf}
+use Rattle.tables.specs.File.{tablesOf, labelsOf}
 use Rattle.tables.specs.Judged.{judgedTables}
 use Rattle.tables.specs.Good.{GoodFile}
-use Rattle.tables.specs.GoodLaws as file
 use Rattle.tables.specs.TablesLaws.{tables-stops, tables-within}
-use Rattle.timetable.specs.declared.Judged.{Judged}
-use Rattle.timetable.specs.declared.Judged.the-variants as numbers
 use Rattle.timetable.specs.Numbers.{judgedOf, serviceOf, GoodNumbers}
-use Rattle.timetable.specs.NumbersLaws as timetable
-use Rattle.support.specs.Ready.{Ready}
+use Rattle.ground.specs.Ground.{groundRoom, judgedBoth}
+use Rattle.ground.specs.GroundLaws.{BothGood, both-good}
 use Rattle.verdict.specs.declared.Verdict.{Verdict}
 use Rattle.verdict.specs.declared.Verdict.the-variants.{Accepted, No}
 use Rattle.verdict.specs.Gaps.{FirstGap}
-use Rattle.verdict.specs.Verdict.{checkRoom, judgedBoth, gapRefusal, Outcome, unsupported-at, gap-at, all-well, Answered, Checked}
+use Rattle.verdict.specs.Verdict.{gapRefusal, Outcome, unsupported-at, gap-at, all-well, Answered, Checked}
 
 -- ---- one answer
 
@@ -83,7 +74,7 @@ answered-one (tables.Good n) S T x y = outcome-one x y
 -- no second answer
 pub checked-one : (b : List ℕ) (stops count : ℕ) (list : List ℕ) (lent : ℕ) {r s : Verdict} → Checked b stops count list lent r → Checked b stops count list lent s → r ≡ s
 checked-one b stops count list lent x y =
-    answered-one (judgedBoth (judgedTables b) (judgedOf stops count list lent checkRoom) stops) (serviceOf stops count list) (tablesOf b) x y
+    answered-one (judgedBoth (judgedTables b) (judgedOf stops count list lent groundRoom) stops) (serviceOf stops count list) (tablesOf b) x y
 
 -- ---- each answer is given exactly when its reason holds
 
@@ -128,29 +119,6 @@ module _ {S : Service} {T : Tables} {r : Verdict} (o : Outcome S T r) where
 
 -- ---- what was judged good
 
-pub record BothGood (b : List ℕ) (stops count : ℕ) (list : List ℕ) (lent n : ℕ) : Type 0 where
-  pub same : n ≡ stops
-  pub file : GoodFile b n
-  pub numbers : GoodNumbers n count list
-  pub room : checkRoom ≤ lent
-
-by-both : (t : TablesRead) (j : Judged) (stops n : ℕ) → judgedBoth t j stops ≡ tables.Good n → (t ≡ tables.Good n) × (j ≡ numbers.Good) × (n ≡ stops)
-by-both (tables.No x) j stops n e = let z : _≡_ {A = ℕ} 0 1 = cc in absurd (omega arith)
-by-both (tables.Good m) (numbers.No x) stops n e = let z : _≡_ {A = ℕ} 0 1 = cc in absurd (omega arith)
-by-both (tables.Good m) numbers.Good stops n e =
-    let z = stays (eqb m stops) e (λ x. let y : _≡_ {A = ℕ} 0 1 = cc in omega arith) in
-    let f = z .1 in
-    let g = eqb-true m stops (z .0) in
-    let h : m ≡ n = cc in
-    (f, refl, sym h ∙ g)
-
-pub both-good : (b : List ℕ) (stops count : ℕ) (list : List ℕ) (lent n : ℕ) → judgedBoth (judgedTables b) (judgedOf stops count list lent checkRoom) stops ≡ tables.Good n →
-    BothGood b stops count list lent n
-both-good b stops count list lent n e =
-    let z = by-both (judgedTables b) (judgedOf stops count list lent checkRoom) stops n e in
-    let g = timetable.judged-good stops count list lent checkRoom (z .1) in
-    record { same = z .2; file = file.judged-good b n (z .0); numbers = subst (λ (m : ℕ). GoodNumbers m count list) (sym (z .2)) (g .0); room = g .1 }
-
 -- what an accepting answer promises: a good file and good numbers for the same stops, and the tables are accepted
 pub record AcceptedTables (b : List ℕ) (stops count : ℕ) (list : List ℕ) : Type 0 where
   pub file : GoodFile b stops
@@ -158,25 +126,13 @@ pub record AcceptedTables (b : List ℕ) (stops count : ℕ) (list : List ℕ) :
   pub accepted : the.Accepted (serviceOf stops count list) (tablesOf b)
 
 pub accepted-tables : (b : List ℕ) (stops count : ℕ) (list : List ℕ) (lent : ℕ) {r : Verdict} → Checked b stops count list lent r → r ≡ Accepted → AcceptedTables b stops count list
-accepted-tables b stops count list lent {r} c e = go (judgedBoth (judgedTables b) (judgedOf stops count list lent checkRoom) stops) (λ n q. both-good b stops count list lent n q) c
+accepted-tables b stops count list lent {r} c e = go (judgedBoth (judgedTables b) (judgedOf stops count list lent groundRoom) stops) (λ n q. both-good b stops count list lent n q) c
   where
     go : (j : TablesRead) → ((n : ℕ) → j ≡ tables.Good n → BothGood b stops count list lent n) → Answered j (serviceOf stops count list) (tablesOf b) r → AcceptedTables b stops count list
     go (tables.No x) g f = let z : _≡_ {A = ℕ} 0 1 = cc in absurd (omega arith)
     go (tables.Good n) g o =
         let h = g n refl in
         record { file = subst (GoodFile b) (h .same) (h .file); numbers = subst (λ (m : ℕ). GoodNumbers m count list) (h .same) (h .numbers); accepted = accepts o .0 e }
-
--- the starts written down
-pub ready : {b : List ℕ} {n : ℕ} (w : List ℕ) {s : List ℕ} → GoodFile b n → 2 * n + 1 ≤ length w → s ≡ filled (startOf b) (2 * n + 1) w → Ready b n s
-ready {b} {n} w {s} g le e =
-    subst (Ready b n) (sym e) (record {
-      file = g;
-      long = omega (arith, length-filled (startOf b) (2 * n + 1) w);
-      starts = λ set m. filled-at (startOf b) (2 * n + 1) w set (omega arith) le;
-    })
-
-pub ready-labels : {b : List ℕ} {n : ℕ} {s : List ℕ} {k : ℕ} → Ready b n s → k ≡ getD s (2 * n) 0 → k ≡ labelsOf b
-ready-labels {b} {n} r e = e ∙ r .starts (2 * n) (omega arith) ∙ ap (λ (m : ℕ). startOf b (2 * m)) (sym (r .file .room .contents .stops))
 
 -- ---- the labels
 

@@ -4,7 +4,6 @@ use kinds::Refusal;
 use kinds::Run;
 use kinds::Stop;
 use tables::TablesRead;
-use timetable::Judged;
 ghost use mathlib.Core.Path.{_≡_};
 ghost use Prim.Native.Nat.{_+_, _*_, _<_};
 ghost use lib.ListN.{length, getD};
@@ -13,30 +12,17 @@ ghost use Rattle.loops.specs.Tells.{Tells};
 ghost use Rattle.kinds.specs.Limits.{mostStops};
 ghost use Rattle.journeys.specs.Tables.{outs, ins};
 ghost use Rattle.tables.specs.File.{tablesOf};
-ghost use Rattle.tables.specs.Judged.{judgedTables};
-ghost use Rattle.timetable.specs.Numbers.{serviceOf, judgedOf, GoodNumbers};
-ghost use Rattle.support.specs.Ready.{Ready};
+ghost use Rattle.timetable.specs.Numbers.{serviceOf, GoodNumbers};
+ghost use Rattle.ground.specs.Ground.{Ready, Ground};
 ghost use Rattle.verdict.specs.Early.{Reached, Arrival};
 ghost use Rattle.verdict.specs.Steps.{relaxed, soonerOf};
 ghost use Rattle.verdict.specs.Gaps.{NoGapOf, Compared, GapIn};
-ghost use Rattle.verdict.specs.Verdict.{checkRoom, judgedBoth, Outcome, Checked};
+ghost use Rattle.verdict.specs.Verdict.{Outcome, Checked};
 
 // What the check answers.
 pub enum Verdict {
     Accepted,
     No(Refusal),
-}
-
-impl Verdict {
-    // The working room of a check, in numbers of two bytes: the starts of all sets, and the number of labels.
-    pub const ROOM: usize = 2 * Stop::MOST + 1;
-
-    pub fn room() -> usize
-        ensures { λ r. do ⌜ r ≡ (← ⟦Verdict::ROOM⟧ .entry) ⌝ }
-        ensures { λ r. ⌜ r ≡ checkRoom ⌝ }
-    {
-        Verdict::ROOM
-    }
 }
 
 // The first gap: its run and its stop.
@@ -78,8 +64,8 @@ fn reach(tables: &[u8], n: u16, starts: &[u16], u: u16, d: u16) -> [u16; Stop::M
     let at = u as usize;
     let mut reached = [UNREACHED; Stop::MOST];
     reached[at] = d;
-    let end = support::start_at(starts, 2 * at + 1);
-    let mut k = support::start_at(starts, 2 * at);
+    let end = ground::start_at(starts, 2 * at + 1);
+    let mut k = ground::start_at(starts, 2 * at);
     while k < end {
         let l = tables::label_at(tables, n, k);
         relax(&mut reached, d, l);
@@ -117,10 +103,10 @@ fn arrivals(
 {
     let at = v as usize;
     let set = 2 * at + 1;
-    let end = support::start_at(starts, set + 1);
+    let end = ground::start_at(starts, set + 1);
     let mut e = near[at];
     let mut f = far[at];
-    let mut k = support::start_at(starts, set);
+    let mut k = ground::start_at(starts, set);
     while k < end {
         let l = tables::label_at(tables, n, k);
         let hub = l.hub as usize;
@@ -182,42 +168,16 @@ fn first_gap(tables: &[u8], n: u16, starts: &[u16], runs: &[u32], count: usize) 
     Gap::Nothing
 }
 
-// 9, 10 and 11, then the timetable's, then 21; or the stop count.
-fn judge(tables: &[u8], stops: u32, run_count: u32, runs: &[u32], lent: usize) -> TablesRead
-    ensures { λ r. ⌜ r ≡ judgedBoth (judgedTables (now (tables .entry))) (judgedOf stops «run_count» (now (runs .entry)) lent checkRoom) stops ⌝ }
-{
-    let read = tables::judge(tables);
-    match read {
-        TablesRead::No(x) => {
-            return TablesRead::No(x);
-        }
-        TablesRead::Good(n) => {
-            let judged = timetable::judge(stops, run_count, runs, lent, Verdict::ROOM);
-            match judged {
-                Judged::No(x) => {
-                    return TablesRead::No(x);
-                }
-                Judged::Good => {}
-            }
-            if (n as u32) != stops {
-                return TablesRead::No(Refusal::new(Refusal::STOPS_DIFFER, 0));
-            }
-            TablesRead::Good(n)
-        }
-    }
-}
-
 // Labels first, then runs and stops.
-fn compare(tables: &[u8], n: u16, starts: &[u16], runs: &[u32], count: usize) -> Verdict
-    requires { ⌜ Ready (now tables) n (now starts) ⌝ }
-    requires { ⌜ GoodNumbers n count (now runs) ⌝ }
+fn compare(tables: &[u8], n: u16, room: &[u16], runs: &[u32], count: usize) -> Verdict
+    requires { ⌜ Ground (now tables) n (now room) (now runs) count ⌝ }
     ensures { λ r. ⌜ Outcome (serviceOf n count (now (runs .entry))) (tablesOf (now (tables .entry))) r ⌝ }
 {
-    let k = support::first_unsupported(tables, n, starts, runs, count);
-    if k < support::start_at(starts, 2 * (n as usize)) {
+    let k = support::first_unsupported(tables, n, room, runs, count);
+    if k < ground::start_at(room, 2 * (n as usize)) {
         return Verdict::No(Refusal::new(Refusal::UNSUPPORTED, k as u32));
     }
-    let gap = first_gap(tables, n, starts, runs, count);
+    let gap = first_gap(tables, n, room, runs, count);
     match gap {
         Gap::At(i, v) => Verdict::No(Refusal {
             number: Refusal::GAP,
@@ -232,12 +192,13 @@ fn compare(tables: &[u8], n: u16, starts: &[u16], runs: &[u32], count: usize) ->
 fn answer(tables: &[u8], stops: u32, run_count: u32, runs: &[u32], work: &mut [u16]) -> Verdict
     ensures { λ r. ⌜ Checked (now (tables .entry)) stops «run_count» (now (runs .entry)) (length (now (work .entry))) r ⌝ }
 {
-    let judged = judge(tables, stops, run_count, runs, work.len());
+    let judged = ground::judge(tables, stops, run_count, runs, work.len());
     match judged {
         TablesRead::No(x) => Verdict::No(x),
         TablesRead::Good(n) => {
-            tables::starts(tables, n, work);
-            compare(tables, n, work, runs, run_count as usize)
+            let count = run_count as usize;
+            ground::prepare(tables, n, runs, count, work);
+            compare(tables, n, work, runs, count)
         }
     }
 }

@@ -7,7 +7,7 @@ use lib.ListN.{length, length-append}
 use borrow.Rule.Slice.PartMut.{same-len-mid}
 use Rattle.loops.specs.WrittenLaws.{written-two}
 use Rattle.tables.specs.TablesLaws.{good-tables}
-use Rattle.pieces.specs.PiecesLaws.{ready-stops}
+use Rattle.ground.specs.GroundLaws.{ready-stops}
 use Rattle.opening.specs.OpenLaws.{first-in, second-in, first-shorter, second-shorter, few-first, few-second, both-open, first-missing, second-missing, halves-missing}
 use Prim.Native.Nat.{ℕ, _<_}
 use borrow.Fn.Kinds.{In}
@@ -44,7 +44,7 @@ open-span-open-run-requires : (t : ℕ) → open-span-lts.Need-open-run-requires
 open-span-open-run-requires t c κs =
     let i = c .before in
     let s = i .before .before .before .before .before .before in
-    ((_, s .pre .1 .0 .numbers), i .if1 .taken)
+    ((_, s .pre .1 .0 .by-departure), (i .if1 .taken, s .pre .1 .1 .leaves))
 
 open-span-same-length : (t : ℕ) → open-span-lts.Need-same-length (
   open-run-reads.Asked,
@@ -86,8 +86,7 @@ open-span-halves-requires : (t : ℕ) → open-span-lts.Need-halves-requires (
 ) (open-span-at t) open-span.Post
 open-span-halves-requires t c κs =
     let s = c .before .before .before .before .before .before in
-    let p = s .pre .1 .1 in
-    (s .pre .1 .0 .ready, record { from-stop = p .from-stop; to-stop = p .to-stop; pivot-stop = p .pivot-stop (c .if1 .left) })
+    (s .pre .1 .0 .ready, (s .pre .1 .1, c .if1 .left))
 
 open-span-enum-told : (t : ℕ) → open-span-lts.Need-enum-told (
   open-run-reads.Asked,

@@ -8,7 +8,7 @@ use Rattle.opening.proofs.lowest_hub.Reads as reads
 use Rattle.opening.proofs.lowest_hub.Lts as lts
 use Rattle.opening.proofs.joins.Reads as joins-reads
 use Rattle.pieces.proofs.seek.Reads as seek-reads
-use Rattle.pieces.proofs.start_at.Reads as start-at-reads
+use Rattle.ground.proofs.start_at.Reads as start-at-reads
 use Rattle.tables.proofs.label_at.Reads as label-at-reads
 
 abbrev Inv-loop : tie.InvT-loop

@@ -2,7 +2,7 @@ use native.Mathlib.Omega.{arith}
 use mathlib.Core.Path.{_∙_}
 use Rattle.loops.specs.ZeroLaws.{zeros-as}
 use Rattle.tables.specs.TablesLaws.{good-tables}
-use Rattle.pieces.specs.PiecesLaws.{ready-stops, ready-few}
+use Rattle.ground.specs.GroundLaws.{ready-stops, ready-few}
 use Rattle.opening.specs.ChooseLaws.{none-chosen, way-in, chosen-of, chosen-opens}
 use borrow.Author.Needs.{needs}
 use Rattle.opening.proofs.open_answer.Statement.{statement}

@@ -6,7 +6,7 @@ use Rattle.pieces.proofs.find.Tie as tie
 use Rattle.pieces.proofs.find.Reads as reads
 use Rattle.pieces.proofs.find.Lts as lts
 use Rattle.pieces.proofs.find_in.Reads as find-in-reads
-use Rattle.pieces.proofs.start_at.Reads as start-at-reads
+use Rattle.ground.proofs.start_at.Reads as start-at-reads
 
 mul-set : tie.Need-mul-set
 mul-set c = search needs

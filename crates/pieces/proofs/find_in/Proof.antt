@@ -5,16 +5,16 @@ use Rattle.pieces.proofs.find_in.Tie as tie
 use Rattle.pieces.proofs.find_in.Reads as reads
 use Rattle.pieces.proofs.find_in.Lts as lts
 use Rattle.pieces.proofs.is_at.Reads as is-at-reads
-use Rattle.pieces.proofs.seek.Reads as seek-reads
+use Rattle.pieces.proofs.place_in.Reads as place-in-reads
 use Rattle.tables.proofs.label_at.Reads as label-at-reads
 
-seek-requires : tie.Need-seek-requires
-seek-requires c κs = search needs
+place-in-requires : tie.Need-place-in-requires
+place-in-requires c κs = search needs
 
 returns : tie.Need-returns
 returns c =
     let s = c .before .before .before .args in
-    λ side o A. past-end (s .m) A (c .before .seek .ensures) (c .if1 .taken)
+    λ side o A. past-end (s .m) A (c .before .place-in .ensures _ _ A) (c .if1 .taken)
 
 label-at-requires : tie.Need-label-at-requires
 label-at-requires c κs = search needs
@@ -26,14 +26,14 @@ returns-2 : tie.Need-returns-2
 returns-2 c =
     let r = c .before .before in
     let k = r .before .before in
-    λ side o A. there (k .before .before .args .m) A (k .seek .ensures) (r .label-at .result) (r .label-at .ensures) (c .before .is-at .ensures) (r .before .if1 .left) (c .if2 .taken)
+    λ side o A. there (k .before .before .args .m) A (k .place-in .ensures _ _ A) (r .label-at .result) (r .label-at .ensures) (c .before .is-at .ensures) (r .before .if1 .left) (c .if2 .taken)
 
 returns-3 : tie.Need-returns-3
 returns-3 c =
     let r = c .before .before in
     let k = r .before .before in
-    λ side o A. not-there (k .before .before .args .m) A (k .seek .ensures) (r .label-at .result) (r .label-at .ensures) (c .before .is-at .ensures) (c .if2 .left)
+    λ side o A. not-there (k .before .before .args .m) A (k .place-in .ensures _ _ A) (r .label-at .result) (r .label-at .ensures) (c .before .is-at .ensures) (c .if2 .left)
 
 pub find-in-spec : {M : Type 1} → statement M
 find-in-spec =
-    tie.close (tie.spec seek-requires returns label-at-requires is-at-requires returns-2 returns-3)
+    tie.close (tie.spec place-in-requires returns label-at-requires is-at-requires returns-2 returns-3)

@@ -8,7 +8,10 @@ use Rattle.pieces.proofs.halves.Lts as lts
 use Rattle.pieces.proofs.find.Reads as find-reads
 
 find-requires : tie.Need-find-requires
-find-requires c κs = search needs
+find-requires c κs =
+    let s = c .before .before in
+    let p = s .pre .1 .0 in
+    (s .pre .0, (p .from-stop, p .pivot-stop (s .pre .1 .1)))
 
 enum-told : tie.Need-enum-told
 enum-told c = search needs
@@ -17,7 +20,10 @@ enum-known-first : tie.Need-enum-known-first
 enum-known-first c = search needs
 
 find-requires-2 : tie.Need-find-requires-2
-find-requires-2 c κs = search needs
+find-requires-2 c κs =
+    let s = c .before .before .before .before .before .before in
+    let p = s .pre .1 .0 in
+    (s .pre .0, (p .pivot-stop (s .pre .1 .1), p .to-stop))
 
 enum-told-2 : tie.Need-enum-told-2
 enum-told-2 c = search needs

@@ -1,7 +1,7 @@
 use mathlib.Core.Path.{refl, sym, _∙_}
 use native.Mathlib.Omega.{arith}
 use Rattle.loops.specs.ZeroLaws.{zeros-as}
-use Rattle.rides.specs.ListsLaws.{asked-good, ready-of, lists-over}
+use Rattle.rides.specs.ListsLaws.{asked-good, lists-over}
 use borrow.Author.Needs.{needs}
 use Rattle.rides.proofs.answered.Statement.{statement}
 use Rattle.rides.proofs.answered.Tie as tie
@@ -11,7 +11,7 @@ use Rattle.loops.proofs.zero_u16.Reads as zero-u16-reads
 use Rattle.loops.proofs.zero_u32.Reads as zero-u32-reads
 use Rattle.rides.proofs.judge.Reads as judge-reads
 use Rattle.rides.proofs.list_best.Reads as list-best-reads
-use Rattle.tables.proofs.starts.Reads as starts-reads
+use Rattle.ground.proofs.prepare.Reads as prepare-reads
 
 zero-u32-requires : tie.Need-zero-u32-requires
 zero-u32-requires c κs = search needs
@@ -35,12 +35,12 @@ cast-n c =
     let A = asked-good _ _ _ _ _ _ _ _ _ (sym (j .judge .ensures) ∙ d .judged2 .given .1) in
     omega (arith, A .numbers .few)
 
-starts-requires : tie.Need-starts-requires
-starts-requires c κs =
+prepare-requires : tie.Need-prepare-requires
+prepare-requires c κs =
     let d = c .before .before in
     let j = d .before .before in
     let A = asked-good _ _ _ _ _ _ _ _ _ (sym (j .judge .ensures) ∙ d .judged2 .given .1) in
-    (A .file .room, omega (arith, A .numbers .few, A .room))
+    (A .file, (A .numbers, A .room))
 
 list-best-requires : tie.Need-list-best-requires
 list-best-requires c κs =
@@ -48,7 +48,7 @@ list-best-requires c κs =
     let d = t .before .before .before in
     let j = d .before .before in
     let A = asked-good _ _ _ _ _ _ _ _ _ (sym (j .judge .ensures) ∙ d .judged2 .given .1) in
-    (record { ready = ready-of _ (A .file) (omega (arith, A .numbers .few, A .room)) (t .starts .ensures); numbers = A .numbers }, (A .good, zeros-as _ _ (j .before .before .before .zero-u32 .ensures) refl))
+    (t .prepare .ensures .0, (A .good, zeros-as _ _ (j .before .before .before .zero-u32 .ensures) refl))
 
 zero-u16-requires-2 : tie.Need-zero-u16-requires-2
 zero-u16-requires-2 c κs = search needs
@@ -80,7 +80,7 @@ returns-2 c =
     let d = t .before .before .before in
     let j = d .before .before in (
       rw (sym (j .judge .ensures) ∙ d .judged2 .given .1) (lists-over _ _ _ _ _ _ (b .list-best .result) (j .before .before .before .zero-u32 .ensures) (b .list-best .ensures)),
-      zeros-as _ _ (z .zero-u162 .ensures) (z .zero-u162 .kept .0 ∙ t .starts .kept .1 .1 .0),
+      zeros-as _ _ (z .zero-u162 .ensures) (z .zero-u162 .kept .0 ∙ t .prepare .kept .1 .1 .1 .1 .0),
     )
 
 pub answered-spec : {M : Type 1} → statement M
@@ -93,7 +93,7 @@ answered-spec =
     zero-u16-requires
     enum-known-judged-2
     cast-n
-    starts-requires
+    prepare-requires
     list-best-requires
     zero-u16-requires-2
     same-length

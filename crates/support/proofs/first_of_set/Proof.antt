@@ -8,19 +8,19 @@ use Rattle.loops.specs.FailsLaws.{holds-start, holds-more, fails-here, fails-en
 use Rattle.journeys.specs.Check.{SupportedAt}
 use Rattle.tables.specs.File.{tablesOf, startOf, endOf}
 use Rattle.timetable.specs.Numbers.{serviceOf}
-use Rattle.support.specs.SearchLaws.{ready-start, ready-end}
+use Rattle.ground.specs.GroundLaws.{ready-start, ready-end}
 use Rattle.support.proofs.first_of_set.Statement.{statement}
 use Rattle.support.proofs.first_of_set.Tie as tie
 use Rattle.support.proofs.first_of_set.Reads as reads
 use Rattle.support.proofs.first_of_set.Lts as lts
-use Rattle.support.proofs.start_at.Reads as start-at-reads
+use Rattle.ground.proofs.start_at.Reads as start-at-reads
 use Rattle.support.proofs.supported_at.Reads as supported-at-reads
 
 abbrev Inv-loop : tie.InvT-loop
-Inv-loop tables n starts runs count set end k₀ k = (k ≤ end) × (end ≡ endOf tables set) × HoldsTo (SupportedAt (serviceOf n count runs) (tablesOf tables)) (startOf tables set) k
+Inv-loop tables n room runs count set end k₀ k = (k ≤ end) × (end ≡ endOf tables set) × HoldsTo (SupportedAt (serviceOf n count runs) (tablesOf tables)) (startOf tables set) k
 
 abbrev μ-loop : tie.MeasureT-loop
-μ-loop tables n starts runs count set end k₀ k = end - k
+μ-loop tables n room runs count set end k₀ k = end - k
 
 add-start-at : tie.Need-add-start-at Inv-loop μ-loop
 add-start-at c = search needs
@@ -35,15 +35,15 @@ loop-holds : tie.Need-loop-holds Inv-loop μ-loop
 loop-holds c =
     let s = c .before .before .before .before .before in
     let p = s .pre in
-    let e = ready-end (p .0) (p .1 .1) (c .before .start-at .ensures) in
-    let f = ready-start (p .0) (search needs) (c .start-at2 .ensures) in
+    let e = ready-end (p .0 .ready) (p .1) (c .before .start-at .ensures) in
+    let f = ready-start (p .0 .ready) (search needs) (c .start-at2 .ensures) in
     (omega arith, e, holds-start f)
 
 supported-at-requires : tie.Need-supported-at-requires Inv-loop μ-loop
 supported-at-requires c κs =
     let at = c .before in
     let p = at .before .before .before .before .before .before .pre in
-    (p .0, (p .1 .0, (p .1 .1, at .loop .inv .2 .low, omega (arith, at .loop .inv .1, c .loop-test .taken))))
+    (p .0, (p .1, at .loop .inv .2 .low, omega (arith, at .loop .inv .1, c .loop-test .taken)))
 
 returns : tie.Need-returns Inv-loop μ-loop
 returns c =

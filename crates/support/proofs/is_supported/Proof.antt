@@ -1,25 +1,43 @@
-use Rattle.support.specs.WayLaws.{support-by-run, support-by-halves, pivot-stop}
+use Rattle.support.specs.SpanLaws.{by-run, by-halves, no-halves}
 use borrow.Author.Needs.{needs}
 use Rattle.support.proofs.is_supported.Statement.{statement}
 use Rattle.support.proofs.is_supported.Tie as tie
 use Rattle.support.proofs.is_supported.Reads as reads
 use Rattle.support.proofs.is_supported.Lts as lts
-use Rattle.support.proofs.has_halves.Reads as has-halves-reads
-use Rattle.support.proofs.has_run.Reads as has-run-reads
+use Rattle.pieces.proofs.find_run.Reads as find-run-reads
+use Rattle.pieces.proofs.halves.Reads as halves-reads
 
-has-run-requires : tie.Need-has-run-requires
-has-run-requires c κs = search needs
+find-run-requires : tie.Need-find-run-requires
+find-run-requires c κs = search needs
 
 returns : tie.Need-returns
-returns c = support-by-run _ _ _ (c .before .if1 .taken) (c .has-run .ensures)
+returns c =
+    let f = c .before in
+    let s = f .before .before .before .before .before in
+    by-run _ (s .args .runs .now) _ (s .args .s) (f .if1 .taken) (c .find-run .ensures)
 
-has-halves-requires : tie.Need-has-halves-requires
-has-halves-requires c κs =
-    let p = c .before .before .before .before .before .pre in
-    (p .0, (p .1 .1 .from-stop, pivot-stop (p .1 .1) (c .if1 .left), p .1 .1 .to-stop))
+halves-requires : tie.Need-halves-requires
+halves-requires c κs = search needs
+
+enum-told : tie.Need-enum-told
+enum-told c = search needs
+
+enum-told-2 : tie.Need-enum-told-2
+enum-told-2 c = search needs
 
 returns-2 : tie.Need-returns-2
-returns-2 c = support-by-halves _ _ _ (c .before .if1 .left) (c .has-halves .ensures)
+returns-2 c =
+    let h = c .before .before in
+    let s = h .before .before .before .before .before .before in
+    by-halves _ _ (s .args .s) (h .before .if1 .left) _ (rw (c .enum-told .given .1) at (h .halves .ensures))
+
+returns-3 : tie.Need-returns-3
+returns-3 c =
+    let h = c .before .before in
+    let s = h .before .before .before .before .before .before in
+    no-halves _ _ (s .args .s) (h .before .if1 .left) (rw (c .enum-told2 .given .1) at (h .halves .ensures))
 
 pub is-supported-spec : {M : Type 1} → statement M
-is-supported-spec = tie.close (tie.spec has-run-requires returns has-halves-requires returns-2)
+is-supported-spec =
+    tie.close
+    (tie.spec find-run-requires returns halves-requires enum-told enum-told-2 returns-2 returns-3)

@@ -1,19 +1,18 @@
 use Prim.Native.Nat.{ℕ}
 use mathlib.Core.Path.{refl, sym, subst, _∙_}
-use native.Mathlib.Omega.{arith}
 use lib.ListN.{length}
 use Rattle.tables.specs.File.{tablesOf}
 use Rattle.timetable.specs.Numbers.{serviceOf}
 use Rattle.verdict.specs.Verdict.{Outcome}
-use Rattle.verdict.specs.VerdictLaws.{BothGood, both-good, ready}
+use Rattle.ground.specs.GroundLaws.{BothGood, both-good}
 use borrow.Author.Needs.{needs}
 use Rattle.verdict.proofs.answer.Statement.{statement}
 use Rattle.verdict.proofs.answer.Tie as tie
 use Rattle.verdict.proofs.answer.Reads as reads
 use Rattle.verdict.proofs.answer.Lts as lts
-use Rattle.tables.proofs.starts.Reads as starts-reads
+use Rattle.ground.proofs.prepare.Reads as prepare-reads
 use Rattle.verdict.proofs.compare.Reads as compare-reads
-use Rattle.verdict.proofs.judge.Reads as judge-reads
+use Rattle.ground.proofs.judge.Reads as judge-reads
 
 -- what holds once nothing was refused
 good : (c : tie.After-judged2) →
@@ -30,16 +29,14 @@ enum-known-judged c = search needs
 enum-known-judged-2 : tie.Need-enum-known-judged-2
 enum-known-judged-2 c = search needs
 
-starts-requires : tie.Need-starts-requires
-starts-requires c κs =
+prepare-requires : tie.Need-prepare-requires
+prepare-requires c κs =
     let g = good (c .before .before) in
-    (g .file .room, omega (arith, g .file .room .contents .few, g .room))
+    (g .file, (g .numbers, g .room))
 
 compare-requires : tie.Need-compare-requires
 compare-requires c κs =
-    let d = c .before .before .before .before .before .before in
-    let g = good d in
-    (ready (d .before .before .before .before .before .before .args .work .now) (g .file) (omega (arith, g .file .room .contents .few, g .room)) (c .before .before .before .starts .ensures), g .numbers)
+    c .before .before .before .prepare .ensures .0
 
 returns : tie.Need-returns
 returns c =
@@ -63,7 +60,7 @@ answer-spec =
     judge-requires
     enum-known-judged
     enum-known-judged-2
-    starts-requires
+    prepare-requires
     compare-requires
     returns
     same-length

@@ -7,14 +7,14 @@ use lib.ListN.{getD}
 use Rattle.journeys.specs.Tables.{ins}
 use Rattle.tables.specs.File.{tablesOf}
 use Rattle.tables.specs.TablesLaws.{tables-within}
-use Rattle.support.specs.SearchLaws.{ready-stops, set-start, set-end, set-rises}
+use Rattle.ground.specs.GroundLaws.{ready-stops, set-start, set-end, set-rising}
 use Rattle.verdict.specs.Early.{Arrival}
 use Rattle.verdict.specs.StepLaws.{read-says, read-hub, arrival-none, arrival-more}
 use Rattle.verdict.proofs.arrivals.Statement.{statement}
 use Rattle.verdict.proofs.arrivals.Tie as tie
 use Rattle.verdict.proofs.arrivals.Reads as reads
 use Rattle.verdict.proofs.arrivals.Lts as lts
-use Rattle.support.proofs.start_at.Reads as start-at-reads
+use Rattle.ground.proofs.start_at.Reads as start-at-reads
 use Rattle.tables.proofs.label_at.Reads as label-at-reads
 use Rattle.verdict.proofs.sooner.Reads as sooner-reads
 
@@ -69,7 +69,7 @@ loop-holds c =
     let e₂ = c .start-at2 .ensures ∙ set-start r ins v (s .pre .1) in
     record {
       low = omega (arith, e₂);
-      high = omega (arith, e₁, e₂, set-rises r ins v);
+      high = omega (arith, e₁, e₂, set-rising (s .args .tables .now) ins v);
       is-end = e₁;
       by-near = subst (λ (k : ℕ). Arrival T (λ h. getD (s .args .near .now) h 0) v k (getD (s .args .near .now) v 0)) (sym e₂) (arrival-none T (λ h. getD (s .args .near .now) h 0) v refl);
       by-far = subst (λ (k : ℕ). Arrival T (λ h. getD (s .args .far .now) h 0) v k (getD (s .args .far .now) v 0)) (sym e₂) (arrival-none T (λ h. getD (s .args .far .now) h 0) v refl);

@@ -5,7 +5,8 @@ use Rattle.timetable.specs.Numbers.{serviceOf}
 use Rattle.verdict.specs.declared.Verdict.the-variants.{No}
 use Rattle.verdict.specs.Gaps.{GapIn}
 use Rattle.verdict.specs.Verdict.{unsupported-at, gap-at, all-well}
-use Rattle.verdict.specs.VerdictLaws.{ready-labels, all-supported, first-unsupported, gap-first}
+use Rattle.verdict.specs.VerdictLaws.{all-supported, first-unsupported, gap-first}
+use Rattle.ground.specs.GroundLaws.{ready-labels}
 use borrow.Author.Needs.{needs}
 use Rattle.verdict.proofs.compare.Statement.{statement}
 use Rattle.verdict.proofs.compare.Tie as tie
@@ -13,7 +14,7 @@ use Rattle.verdict.proofs.compare.Reads as reads
 use Rattle.verdict.proofs.compare.Lts as lts
 use Rattle.kinds.proofs.Refusal.new.Reads as new-reads
 use Rattle.support.proofs.first_unsupported.Reads as first-unsupported-reads
-use Rattle.support.proofs.start_at.Reads as start-at-reads
+use Rattle.ground.proofs.start_at.Reads as start-at-reads
 use Rattle.verdict.proofs.first_gap.Reads as first-gap-reads
 
 first-unsupported-requires : tie.Need-first-unsupported-requires
@@ -23,12 +24,12 @@ mul-start-at : tie.Need-mul-start-at
 mul-start-at c = search needs
 
 start-at-requires : tie.Need-start-at-requires
-start-at-requires c κs = omega (arith, c .before .before .before .before .pre .0 .long)
+start-at-requires c κs = omega (arith, c .before .before .before .before .pre .ready .long)
 
 cast-new : tie.Need-cast-new
 cast-new c =
     let f = c .before .before in
-    omega (arith, f .first-unsupported .ensures .high, f .before .before .before .before .pre .0 .file .room .few-labels)
+    omega (arith, f .first-unsupported .ensures .high, f .before .before .before .before .pre .ready .file .room .few-labels)
 
 new-requires : tie.Need-new-requires
 new-requires c κs = search needs
@@ -38,11 +39,13 @@ returns c =
     let t = c .before .before in
     let f = t .before in
     let p = f .before .before .before .before .pre in
-    let e = ready-labels (p .0) (t .start-at .ensures) in
-    unsupported-at _ (first-unsupported (p .0 .file) (f .first-unsupported .ensures) (omega (arith, e, c .before .if1 .taken))) (ap No (c .new .ensures))
+    let e = ready-labels (p .ready) (t .start-at .ensures) in
+    unsupported-at _ (first-unsupported (p .ready .file) (f .first-unsupported .ensures) (omega (arith, e, c .before .if1 .taken))) (ap No (c .new .ensures))
 
 first-gap-requires : tie.Need-first-gap-requires
-first-gap-requires c κs = search needs
+first-gap-requires c κs =
+    let p = c .before .before .before .before .before .before .pre in
+    (p .ready, p .by-departure .numbers)
 
 enum-known-gap : tie.Need-enum-known-gap
 enum-known-gap c = search needs
@@ -56,8 +59,8 @@ returns-2 c =
     let t = g .before .before in
     let f = t .before in
     let s = f .before .before .before .before in
-    let e = ready-labels (s .pre .0) (t .start-at .ensures) in
-    let a = all-supported (s .pre .0 .file) (f .first-unsupported .ensures) (omega (arith, e, g .before .if1 .left)) in
+    let e = ready-labels (s .pre .ready) (t .start-at .ensures) in
+    let a = all-supported (s .pre .ready .file) (f .first-unsupported .ensures) (omega (arith, e, g .before .if1 .left)) in
     gap-at _ _ (gap-first a (subst (GapIn (serviceOf (s .args .n) (s .args .count) (s .args .runs .now)) (tablesOf (s .args .tables .now))) (c .before .gap .given .1) (g .first-gap .ensures))) refl
 
 returns-3 : tie.Need-returns-3
@@ -66,8 +69,8 @@ returns-3 c =
     let t = g .before .before in
     let f = t .before in
     let s = f .before .before .before .before in
-    let e = ready-labels (s .pre .0) (t .start-at .ensures) in
-    let a = all-supported (s .pre .0 .file) (f .first-unsupported .ensures) (omega (arith, e, g .before .if1 .left)) in
+    let e = ready-labels (s .pre .ready) (t .start-at .ensures) in
+    let a = all-supported (s .pre .ready .file) (f .first-unsupported .ensures) (omega (arith, e, g .before .if1 .left)) in
     all-well (record { supported = a; no-gaps = subst (GapIn (serviceOf (s .args .n) (s .args .count) (s .args .runs .now)) (tablesOf (s .args .tables .now))) (c .enum-told .given .1) (g .first-gap .ensures) }) refl
 
 pub compare-spec : {M : Type 1} → statement M

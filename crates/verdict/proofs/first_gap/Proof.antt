@@ -10,7 +10,7 @@ use Rattle.journeys.specs.Check.{NoGapAt}
 use Rattle.tables.specs.File.{tablesOf}
 use Rattle.timetable.specs.Numbers.{serviceOf}
 use Rattle.timetable.specs.NumbersLaws.{good-run-at}
-use Rattle.support.specs.SearchLaws.{ready-stops}
+use Rattle.ground.specs.GroundLaws.{ready-stops}
 use Rattle.verdict.specs.GapLaws.{read-good, at-run, first-gap, no-gaps}
 use Rattle.verdict.proofs.first_gap.Statement.{statement}
 use Rattle.verdict.proofs.first_gap.Tie as tie

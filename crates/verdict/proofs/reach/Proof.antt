@@ -8,7 +8,7 @@ use Rattle.kinds.specs.Limits.{mostStops}
 use Rattle.journeys.specs.Tables.{outs}
 use Rattle.tables.specs.File.{tablesOf}
 use Rattle.tables.specs.TablesLaws.{tables-within, good-tables}
-use Rattle.support.specs.SearchLaws.{ready-stops, set-start, set-end, set-rises}
+use Rattle.ground.specs.GroundLaws.{ready-stops, set-start, set-end, set-rising}
 use Rattle.verdict.specs.Early.{Reached}
 use Rattle.verdict.specs.Steps.{fresh}
 use Rattle.verdict.specs.StepLaws.{read-says, read-hub, length-fresh, length-relaxed, reached-none, reached-more}
@@ -16,7 +16,7 @@ use Rattle.verdict.proofs.reach.Statement.{statement}
 use Rattle.verdict.proofs.reach.Tie as tie
 use Rattle.verdict.proofs.reach.Reads as reads
 use Rattle.verdict.proofs.reach.Lts as lts
-use Rattle.support.proofs.start_at.Reads as start-at-reads
+use Rattle.ground.proofs.start_at.Reads as start-at-reads
 use Rattle.tables.proofs.label_at.Reads as label-at-reads
 use Rattle.verdict.proofs.relax.Reads as relax-reads
 
@@ -65,7 +65,7 @@ loop-holds c =
     let e₂ = c .start-at2 .ensures ∙ set-start r outs u (s .pre .1) in
     record {
       low = omega (arith, e₂);
-      high = omega (arith, e₁, e₂, set-rises r outs u);
+      high = omega (arith, e₁, e₂, set-rising (s .args .tables .now) outs u);
       is-end = e₁;
       long = length-fresh u (s .args .d);
       reached = subst (λ (k : ℕ). Reached (tablesOf (s .args .tables .now)) u (s .args .d) k (λ h. getD (fresh u (s .args .d)) h 0)) (sym e₂)

@@ -1,0 +1,76 @@
+use borrow.Author.Needs.{needs}
+use Prim.Native.Nat.{_-_}
+use native.Mathlib.Omega.{arith}
+use Rattle.tables.specs.File.{tablesOf}
+use Rattle.tables.specs.TablesLaws.{good-tables, tables-stops}
+use Rattle.pieces.specs.Seek.{Past}
+use Rattle.pieces.specs.SeekLaws.{past-true, past-false, Halved, halved-begin, halved-low, halved-high, halved-end}
+use Rattle.pieces.specs.PiecesLaws.{set-rises}
+use Rattle.pieces.proofs.place_in.Statement.{statement}
+use Rattle.pieces.proofs.place_in.Tie as tie
+use Rattle.pieces.proofs.place_in.Reads as reads
+use Rattle.pieces.proofs.place_in.Lts as lts
+use Rattle.pieces.proofs.is_past.Reads as is-past-reads
+use Rattle.tables.proofs.label_at.Reads as label-at-reads
+
+abbrev Inv-loop : tie.InvT-loop
+Inv-loop tables n from to hub m low₀ high₀ low high = Halved (Past (tablesOf tables) hub m) from to low high
+
+abbrev μ-loop : tie.MeasureT-loop
+μ-loop tables n from to hub m low₀ high₀ low high = high - low
+
+loop-holds : tie.Need-loop-holds Inv-loop μ-loop
+loop-holds c = halved-begin (search needs)
+
+add-mid : tie.Need-add-mid Inv-loop μ-loop
+add-mid c = search needs
+
+label-at-requires : tie.Need-label-at-requires Inv-loop μ-loop
+label-at-requires c κs = search needs
+
+is-past-requires : tie.Need-is-past-requires Inv-loop μ-loop
+is-past-requires c κs = search needs
+
+loop-less : tie.Need-loop-less Inv-loop μ-loop
+loop-less c = search needs
+
+loop-again : tie.Need-loop-again Inv-loop μ-loop
+loop-again c =
+    let read = c .before .before in
+    let at = read .before .before in
+    let s = at .before .before .args in
+    halved-low (at .loop .inv) (search needs) (search needs) (past-true (s .tables .now) (s .hub) (s .m) _ _ (read .label-at .ensures) (c .before .is-past .ensures) (c .if1 .taken))
+
+add-low : tie.Need-add-low Inv-loop μ-loop
+add-low c = search needs
+
+loop-less-2 : tie.Need-loop-less-2 Inv-loop μ-loop
+loop-less-2 c = search needs
+
+loop-again-2 : tie.Need-loop-again-2 Inv-loop μ-loop
+loop-again-2 c =
+    let read = c .before .before in
+    let at = read .before .before in
+    let s = at .before .before .args in
+    halved-high (at .loop .inv) (search needs) (search needs) (past-false (s .tables .now) (s .hub) (s .m) _ _ (read .label-at .ensures) (c .before .is-past .ensures) (c .if1 .left))
+
+returns : tie.Need-returns Inv-loop μ-loop
+returns c =
+    λ side o A. halved-end (c .before .loop .inv) (c .loop-test .left) (set-rises (c .before .before .before .args .m) A)
+
+pub place-in-spec : {M : Type 1} → statement M
+place-in-spec =
+    tie.close
+    (tie.spec
+    Inv-loop
+    μ-loop
+    loop-holds
+    add-mid
+    label-at-requires
+    is-past-requires
+    loop-less
+    loop-again
+    add-low
+    loop-less-2
+    loop-again-2
+    returns)

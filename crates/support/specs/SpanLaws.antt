@@ -1,0 +1,118 @@
+-- Laws of support: the label that a set's number and a label read say, and what the look-ups tell of it.
+use Prim.Native.Nat.{ℕ, _+_, _*_, _%_, _≤_, _<_}
+use mathlib.Core.Path.{_≡_, refl, sym, ap, _∙_}
+use mathlib.Core.List.{List}
+use mathlib.Core.Logic.{_⊎_, inl, inr}
+use mathlib.Core.Option.{Option}
+use mathlib.Core.Bool.{Bool, true, false}
+use native.Mathlib.Omega.{arith}
+use native.Mathlib.Decide.{decLt, ℕ-discrete}
+use lib.Dec.{ltb}
+use borrow.Author.Tests.{eq-eqb, ne-eqb, ltb-true, ltb-false}
+use Rattle.loops.specs.First.{FirstAt}
+use Rattle.loops.specs.Tells.{Tells}
+use Rattle.loops.specs.TellsLaws.{tells-yes, tells-no, tells-as}
+use Rattle.kinds.specs.Limits.{noPivot}
+use Rattle.kinds.specs.KindsLaws.{GoodPivot}
+use Rattle.kinds.specs.declared.Label.{Label}
+use Rattle.journeys.specs.Service.{Service}
+use Rattle.journeys.specs.Tables.{Side, outs, ins, Tables, Entry, LabelAt, of-out, of-in}
+use Rattle.journeys.specs.Check.{Halves, SupportedAt}
+use Rattle.journeys.specs.SketchLaws.{entry-at}
+use Rattle.tables.specs.File.{startOf, endOf, setOf, ownerOf, labelAt, pivotOf, tablesOf}
+use Rattle.tables.specs.FileLaws.{start-more, start-rises}
+use Rattle.tables.specs.Good.{GoodFile}
+use Rattle.tables.specs.TablesLaws.{tables-stops, tables-start, tables-end, entry-label}
+use Rattle.timetable.specs.Numbers.{serviceOf}
+use Rattle.pieces.specs.declared.Span.{Span}
+use Rattle.pieces.specs.declared.Meeting.{Meeting}
+use Rattle.pieces.specs.Pieces.{SpanIn, MeetAt, RunIs}
+use Rattle.support.specs.Spans.{spanOf, SpanSupported}
+
+-- ---- the label at a number of a set
+
+same-set : (b : List ℕ) (i j k : ℕ) → startOf b i ≤ k → k < endOf b i → startOf b j ≤ k → k < endOf b j → i ≡ j
+same-set b i j k h₁ h₂ h₃ h₄ = go (decLt i j) (decLt j i)
+  where
+    go : Dec (i < j) → Dec (j < i) → i ≡ j
+    go (yes l) d = absurd (omega (arith, start-more b i, start-rises b j (i + 1) (omega arith)))
+    go (no l) (yes m) = absurd (omega (arith, start-more b j, start-rises b i (j + 1) (omega arith)))
+    go (no l) (no m) = omega arith
+
+module _ {b : List ℕ} {n : ℕ} (g : GoodFile b n) {set k : ℕ} (real : set < 2 * n) (low : startOf b set ≤ k) (high : k < endOf b set) where
+  own-entry : (side : Side) → setOf side (ownerOf set) ≡ set → Entry (tablesOf b) side k (ownerOf set) (tablesOf b .hub k) (tablesOf b .dep k) (tablesOf b .arr k) (tablesOf b .pivot k)
+  own-entry side e =
+      entry-at (omega (arith, tables-stops b, g .room .contents .stops))
+      (omega (arith, tables-start b side (ownerOf set), ap (startOf b) e))
+      (omega (arith, tables-end b side (ownerOf set), ap (endOf b) e))
+
+  one-set : {side : Side} {o h d a : ℕ} {p : Option ℕ} → Entry (tablesOf b) side k o h d a p → setOf side o ≡ set
+  one-set {side} {o} x = same-set b (setOf side o) set k (omega (arith, x .low, tables-start b side o)) (omega (arith, x .high, tables-end b side o)) low high
+
+  module _ {l : Label} {w : Span} (el : l ≡ labelAt b k) (ew : w ≡ spanOf set l) where
+    by-out : set % 2 ≡ 0 → w ≡ record { from = ownerOf set; to = labelAt b k .hub; dep = labelAt b k .dep; arr = labelAt b k .arr; pivot = labelAt b k .pivot }
+    unfolding spanOf
+    by-out e = ew ∙ rw (eq-eqb (set % 2) 0 e, el)
+
+    by-in : (set % 2 ≡ 0 → ⊥) → w ≡ record { from = labelAt b k .hub; to = ownerOf set; dep = labelAt b k .dep; arr = labelAt b k .arr; pivot = labelAt b k .pivot }
+    unfolding spanOf
+    by-in e = ew ∙ rw (ne-eqb (set % 2) 0 e, el)
+
+    pub span-label : LabelAt (tablesOf b) k (w .from) (w .to) (w .dep) (w .arr) (pivotOf (w .pivot))
+    unfolding tablesOf
+    span-label = go (ℕ-discrete (set % 2) 0)
+      where
+        go : Dec (set % 2 ≡ 0) → LabelAt (tablesOf b) k (w .from) (w .to) (w .dep) (w .arr) (pivotOf (w .pivot))
+        go (yes e) = rw (by-out e) (of-out (own-entry outs (omega arith)))
+        go (no e) = rw (by-in e) (of-in (own-entry ins (omega arith)))
+
+    -- it is all that the tables say at this number
+    pub span-only : (S : Service) → SpanSupported S (tablesOf b) w → SupportedAt S (tablesOf b) k
+    unfolding tablesOf
+    span-only S s u v d a p (of-out x) =
+        let e : set % 2 ≡ 0 = omega (arith, one-set x) in
+        let o : ownerOf set ≡ u = omega (arith, one-set x) in
+        rw (← o, ← x .hub, ← x .dep, ← x .arr, ← x .pivot) (rw (by-out e) at s)
+    span-only S s u v d a p (of-in x) =
+        let e : set % 2 ≡ 0 → ⊥ = λ q. omega (arith, one-set x) in
+        let o : ownerOf set ≡ v = omega (arith, one-set x) in
+        rw (← o, ← x .hub, ← x .dep, ← x .arr, ← x .pivot) (rw (by-in e) at s)
+
+    pub span-tells : (S : Service) {r : Bool} → Tells (SpanSupported S (tablesOf b) w) r → Tells (SupportedAt S (tablesOf b) k) r
+    span-tells S t = tells-as (span-only S, λ f. f _ _ _ _ _ span-label) t
+
+    pub span-in : SpanIn n w
+    span-in = go (ℕ-discrete (set % 2) 0)
+      where
+        pivot-in : {o h p : ℕ} → (p ≡ noPivot) ⊎ GoodPivot n o h p → (p ≡ noPivot → ⊥) → p < n
+        pivot-in (inl e) f = absurd (f e)
+        pivot-in (inr q) f = q .below
+
+        go : Dec (set % 2 ≡ 0) → SpanIn n w
+        go (yes e) =
+            let x = entry-label g (own-entry outs (omega arith)) in
+            rw (by-out e) (record { from-stop = omega arith; to-stop = omega (arith, x .low); pivot-stop = pivot-in (x .pivoted); leaves = omega (arith, x .later, x .last) })
+        go (no e) =
+            let x = entry-label g (own-entry ins (omega arith)) in
+            rw (by-in e) (record { from-stop = omega (arith, x .low); to-stop = omega arith; pivot-stop = pivot-in (x .pivoted); leaves = omega (arith, x .later, x .last) })
+
+-- ---- support, with a pivot and without
+
+-- the first run with its ends and minutes stands below the number of runs
+pub by-run : (stops : ℕ) {count : ℕ} (list : List ℕ) (T : Tables) (w : Span) {i : ℕ} → w .pivot ≡ noPivot → FirstAt (RunIs list w) 0 count i →
+    Tells (SpanSupported (serviceOf stops count list) T w) (ltb i count)
+unfolding serviceOf
+by-run stops {count} list T w {i} e F = rw (eq-eqb (w .pivot) noPivot e) (record {
+  holds = λ q. let r = F .here (ltb-true i count q) in (i, record { below = ltb-true i count q; forced = refl; goes = r .goes; ends = r .ends; leaves = r .leaves; arrives = r .arrives });
+  fails = λ q s.
+      let r = s .1 in
+      F .passed .none (s .0) (omega arith) (omega (arith, ltb-false i count q, r .below)) (record { goes = r .goes; ends = r .ends; leaves = r .leaves; arrives = r .arrives });
+})
+
+module _ (S : Service) (T : Tables) (w : Span) (e : w .pivot ≡ noPivot → ⊥) where
+  pub by-halves : (h : Meeting) → MeetAt T w h → Tells (SpanSupported S T w) true
+  by-halves h m = rw (ne-eqb (w .pivot) noPivot e)
+      (tells-yes (record { mid = h .mid; start = h .start; pivot₁ = pivotOf (h .first); pivot₂ = pivotOf (h .second); first = m .first; second = m .second; meets = m .meets }))
+
+  pub no-halves : ¬ (Halves T (w .from) (w .pivot) (w .to) (w .dep) (w .arr)) → Tells (SpanSupported S T w) false
+  no-halves n = rw (ne-eqb (w .pivot) noPivot e) (tells-no n)
