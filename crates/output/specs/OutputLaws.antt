@@ -1,5 +1,5 @@
 -- Laws of the output: the program's start leads to it, its steps print it line by line, and it is one.
-use Prim.Native.Nat.{ℕ, zero, suc, _+_, _≤_, _<_}
+use Prim.Native.Nat.{ℕ, zero, suc, _+_, _*_, _≤_, _<_}
 use mathlib.Core.Path.{_≡_, refl, sym, ap, ap₂, subst, subst₂, _∙_}
 use mathlib.Core.List.{List, [], _∷_, _++_, append-assoc}
 use native.Mathlib.Omega.{arith}
@@ -26,7 +26,7 @@ use Rattle.answers.specs.AnswersLaws.{printed-one}
 use Rattle.output.specs.Output.{readInput, StartOf, unread, unbuilt, built, Held, heldOf, LinePrints, LinesPrint, none, unfinished, line, TurnPrints, Prints, OutputOf}
 use Rattle.output.specs.InputLaws.{read-held, input-good}
 use Rattle.output.specs.Steps.{StepOf, Ready, Stands}
-use Rattle.output.specs.StepLaws.{left, left-most, step-stands, step-less, step-prints, step-over}
+use Rattle.output.specs.StepLaws.{left, mostLines, left-most, few-bytes, step-stands, step-less, step-prints, step-over}
 use Rattle.output.specs.declared.Sizes.{Sizes}
 use Rattle.output.specs.declared.Turn.{Turn}
 use Rattle.output.specs.declared.Stage.{Stage}
@@ -80,30 +80,49 @@ module _ (t tables list : List ℕ) (s : Stage) (S : StartOf t runsRoom codesRoo
 -- ---- the steps, one after the other
 
 -- From the stage `first` on, with `before` in the list, lines of so many bytes were written; now the stage is s, and the list is `list`.
-pub record Handed (t runs codes tables before : List ℕ) (first : Stage) (list : List ℕ) (s : Stage) (total : ℕ) : Type 0 where
+pub record Along (t runs codes tables before : List ℕ) (first : Stage) (list : List ℕ) (s : Stage) (total : ℕ) : Type 0 where
+  pub stands : Stands t runs codes tables list s
   pub done : List ℕ
   pub count : total ≡ length done
   pub rest : (ys : List ℕ) → Prints t runs codes tables list s ys → Prints t runs codes tables before first (done ++ ys)
+  -- what is left cannot make the number of bytes too large
+  pub bound : total + lineRoom * left (length t) s ≤ lineRoom * mostLines
 
-pub handed-none : (t runs codes tables list : List ℕ) (s : Stage) → Handed t runs codes tables list s list s 0
-handed-none t runs codes tables list s = record { done = []; count = refl; rest = λ ys P. P }
+pub along-none : (t runs codes tables list : List ℕ) (s : Stage) → Stands t runs codes tables list s → Along t runs codes tables list s list s 0
+along-none t runs codes tables list s R =
+    record { stands = R; done = []; count = refl; rest = λ ys P. P; bound = omega (arith, left-most t runs codes tables list s R) }
 
-module _ (t runs codes tables before list out list′ out′ : List ℕ) (first s : Stage) {total : ℕ} (D : Handed t runs codes tables before first list s total) {x : Step}
-    (R : Stands t runs codes tables list s) (S : StepOf t runs codes tables s list out list′ out′ x) where
-  pub handed-more : lineRoom ≤ length out → length out′ ≡ length out → (n : ℕ) (s′ : Stage) → x ≡ Printed n s′ → n ≤ lineRoom →
-      Handed t runs codes tables before first list′ s′ (total + n)
-  handed-more room same n s′ e few =
-      record {
-        done = D .done ++ take n out′;
-        count = rw length-append (ap₂ (λ (i j : ℕ). i + j) (D .count) (sym (length-take-le n out′ (omega arith))));
-        rest = λ ys P. subst (Prints t runs codes tables before first) (sym (append-assoc (D .done) (take n out′) ys))
-            (D .rest (take n out′ ++ ys) (step-prints t runs codes tables list out list′ out′ s R S room n s′ e ys P));
-      }
+module _ (t runs codes tables before list out list′ out′ : List ℕ) (first s : Stage) {total : ℕ} (D : Along t runs codes tables before first list s total) {x : Step}
+    (S : StepOf t runs codes tables s list out list′ out′ x) where
+  module _ (n : ℕ) (s′ : Stage) (e : x ≡ Printed n s′) where
+    -- the line is within the buffer
+    pub along-bytes : n ≤ lineRoom
+    along-bytes = few-bytes t runs codes tables s list out list′ out′ S n s′ e
+
+    pub along-less : length list′ ≡ length list → left (length t) s′ < left (length t) s
+    along-less same = step-less t runs codes tables list out list′ out′ s (D .stands) S same n s′ e
+
+    -- the number of bytes stays small
+    pub along-total : length list′ ≡ length list → total + n + lineRoom * left (length t) s′ ≤ lineRoom * mostLines
+    along-total same =
+        omega (arith, D .bound, along-bytes, along-less same)
+
+    pub along-more : length list′ ≡ length list → lineRoom ≤ length out → length out′ ≡ length out → Along t runs codes tables before first list′ s′ (total + n)
+    along-more same room as-long =
+        let few = along-bytes in
+        record {
+          stands = step-stands t runs codes tables list out list′ out′ s (D .stands) S same n s′ e;
+          done = D .done ++ take n out′;
+          count = rw length-append (ap₂ (λ (i j : ℕ). i + j) (D .count) (sym (length-take-le n out′ (omega arith))));
+          rest = λ ys P. subst (Prints t runs codes tables before first) (sym (append-assoc (D .done) (take n out′) ys))
+              (D .rest (take n out′ ++ ys) (step-prints t runs codes tables list out list′ out′ s (D .stands) S room n s′ e ys P));
+          bound = along-total same;
+        }
 
   -- all that is to be printed was written
-  pub handed-all : x ≡ Nothing → (xs : List ℕ) × Prints t runs codes tables before first xs × (total ≡ length xs)
-  handed-all e =
-      (D .done ++ [], D .rest [] (step-over t runs codes tables list out list′ out′ s R S e), rw length-append (omega (arith, D .count)))
+  pub along-all : x ≡ Nothing → (xs : List ℕ) × Prints t runs codes tables before first xs × (total ≡ length xs)
+  along-all e =
+      (D .done ++ [], D .rest [] (step-over t runs codes tables list out list′ out′ s (D .stands) S e), rw length-append (omega (arith, D .count)))
 
 -- ---- the output is one
 

@@ -75,9 +75,12 @@ left long (Refused r) = 1
 left long (Asks z p) = 1 + (suc lastMinute * (long - p .at) + (p .rides - p .ride))
 left long Over = 0
 
+abbrev pub mostLines : ℕ
+mostLines = 1 + (suc lastMinute * mostInput + lastMinute)
+
 module _ (t runs codes tables list : List ℕ) where
-  -- so many lines, and so many bytes, are left at most at any stage
-  pub left-most : (s : Stage) → Stands t runs codes tables list s → left (length t) s ≤ 1 + (suc lastMinute * mostInput + lastMinute)
+  -- so many lines are left at most at any stage
+  pub left-most : (s : Stage) → Stands t runs codes tables list s → left (length t) s ≤ mostLines
   left-most (Refused r) R = omega arith
   left-most (Asks z p) R = omega (arith, few-rides R, R .short)
   left-most Over R = omega arith
@@ -135,7 +138,7 @@ module _ {t runs codes tables list : List ℕ} {z : Sizes} {p : Turn} (R : Ready
   unfolding rideLines
   ride-more l {ys} P =
       let Q : TurnPrints H t list (record { at = p .at; ride = p .ride + 1; rides = p .rides }) ys =
-          subst (λ (m : List ℕ). TurnPrints H t m (record { at = p .at; ride = p .ride + 1; rides = p .rides }) ys) l P in
+      subst (λ (m : List ℕ). TurnPrints H t m (record { at = p .at; ride = p .ride + 1; rides = p .rides }) ys) l P in
       let xs : List ℕ = runLine (H .text) codes (runAt runs (getD list (p .ride) 0)) in
       let e : p .ride + 1 ≡ suc (p .ride) = omega arith in
       record {
@@ -199,6 +202,16 @@ module _ (t runs codes tables list out list′ out′ : List ℕ) {x : Step} whe
   step-over (Asks z p) R S e = turn-over R e S
   step-over Over R S e = refl
 
+-- a line is no longer than the room for a line
+pub few-bytes : (t runs codes tables : List ℕ) (s : Stage) (list out list′ out′ : List ℕ) {x : Step} → StepOf t runs codes tables s list out list′ out′ x →
+    (n : ℕ) (s′ : Stage) → x ≡ Printed n s′ → n ≤ lineRoom
+few-bytes t runs codes tables (Refused r) list out list′ out′ S n s′ e = omega (arith, S .0 .short, same-bytes (sym (S .0 .is) ∙ e) .0)
+few-bytes t runs codes tables (Asks z p) list out list′ out′ (step.ride lt l w) n s′ e = omega (arith, w .short, same-bytes (sym (w .is) ∙ e) .0)
+few-bytes t runs codes tables (Asks z p) list out list′ out′ (step.line i y le at g w) n s′ e = omega (arith, w .short, same-bytes (sym (w .is) ∙ e) .0)
+few-bytes t runs codes tables (Asks z p) list out list′ out′ (step.unfinished le at l w) n s′ e = omega (arith, w .short, same-bytes (sym (w .is) ∙ e) .0)
+few-bytes t runs codes tables (Asks z p) list out list′ out′ (step.none le at l o f) n s′ e = let y : _≡_ {A = ℕ} 0 1 = let g = sym e ∙ f in cc in absurd (omega arith)
+few-bytes t runs codes tables Over list out list′ out′ S n s′ e = let y : _≡_ {A = ℕ} 0 1 = let g = sym e ∙ S .0 in cc in absurd (omega arith)
+
 -- ---- no second step, no second list and no second bytes meet the contract
 
 writes-one : {out xs o o′ : List ℕ} {s : Stage} {x y : Step} → Writes out xs s o x → Writes out xs s o′ y → (x ≡ y) × (o ≡ o′)
@@ -216,9 +229,9 @@ turn-same {h} {t} {z} {p} {list} {out} {l} {m} {o} {n} {x} {y} (step.line i q le
     let e : i′ ≡ i = cc in
     let read = askLine (h .text) (h .codes) (h .stops) t (p .at) i in
     let b = gets-one (h .tables) (h .stops) (h .count) (h .runs) ridesRoom read list l m q q′ g
-        (subst (λ (k : ℕ). LineGets (h .tables) (h .stops) (h .count) (h .runs) ridesRoom (askLine (h .text) (h .codes) (h .stops) t (p .at) k) list m q′) e g′) in
+    (subst (λ (k : ℕ). LineGets (h .tables) (h .stops) (h .count) (h .runs) ridesRoom (askLine (h .text) (h .codes) (h .stops) t (p .at) k) list m q′) e g′) in
     let v = writes-one w
-        (subst₂ (λ (k : ℕ) (a : RidesAnswer). Writes out (headOf a) (Asks z (record { at = k + 1; ride = 0; rides = ridesIn a })) n y) e (sym (b .0)) w′) in
+    (subst₂ (λ (k : ℕ) (a : RidesAnswer). Writes out (headOf a) (Asks z (record { at = k + 1; ride = 0; rides = ridesIn a })) n y) e (sym (b .0)) w′) in
     (v .0, b .1, v .1)
 turn-same (step.line i q le at g w) (step.unfinished le′ at′ l′ w′) = let k : _≡_ {A = ℕ} 0 1 = let j = sym at ∙ at′ in cc in absurd (omega arith)
 turn-same (step.line i q le at g w) (step.none le′ at′ l′ o′ f′) = let k : _≡_ {A = ℕ} 0 1 = let j = sym at ∙ at′ in cc in absurd (omega arith)
