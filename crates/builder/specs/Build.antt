@@ -3,7 +3,7 @@ use Prim.Native.Nat.{ℕ, _*_, _-_, _≤_, _<_}
 use mathlib.Core.Path.{_≡_}
 use mathlib.Core.List.{List, _++_}
 use lib.ListN.{length, replicate}
-use Rattle.kinds.specs.Limits.{mostRuns, mostLabels}
+use Rattle.kinds.specs.Limits.{mostLabels}
 use Rattle.kinds.specs.Refusals.{roomShort, labelsOver, refusal}
 use Rattle.kinds.specs.declared.Refusal.{Refusal}
 use Rattle.journeys.specs.Service.{Service}
@@ -17,9 +17,9 @@ use Rattle.tables.specs.declared.TablesRead.the-variants as read
 use Rattle.builder.specs.declared.BuildAnswer.{BuildAnswer}
 use Rattle.builder.specs.declared.BuildAnswer.the-variants.{Built, No}
 
--- the working room: two events a run
+-- the working room: three numbers a label
 abbrev pub buildRoom : ℕ
-buildRoom = 2 * mostRuns
+buildRoom = 3 * mostLabels
 
 -- the bytes are good tables, whose labels are exactly those of the rule
 pub record RuleFile (S : Service) (file : List ℕ) : Type 0 where

@@ -12,3 +12,5 @@ pub mod WalkLaws
 pub mod StepLaws
 pub mod Sets
 pub mod SetLaws
+pub mod Log
+pub mod LogLaws
