@@ -77,13 +77,13 @@ module _ (list : List ℕ) (k : ℕ) {count : ℕ} {before l : List ℕ} (I : In
 
   first-more : (d : ℕ) → d < minutes → FirstAt (Leaves list d) k count (getD (withRun list k l) d 0)
   first-more d lt = elim (ℕ-discrete d (runAt list k .dep)) [
-    yes e ↦ subst (λ (z : ℕ). FirstAt (Leaves list z) k count (getD (withRun list k l) z 0)) (sym e) (rw own-minute (first-here passed-none (omega (arith, I .within)) refl))
+    | yes e ↦ subst (λ (z : ℕ). FirstAt (Leaves list z) k count (getD (withRun list k l) z 0)) (sym e) (rw own-minute (first-here passed-none (omega (arith, I .within)) refl))
     | no n ↦ rw (other-place d (λ e. omega arith) n) (first-extend (passed-more passed-none (λ e. n (sym e))) (I .first d lt))
   ]
 
   next-more : (i : ℕ) → k ≤ i → i < count → FirstAt (Leaves list (runAt list i .dep)) (i + 1) count (getD (withRun list k l) (minutes + i) 0)
   next-more i ge lt = elim (ℕ-discrete i k) [
-    yes e ↦ subst (λ (j : ℕ). FirstAt (Leaves list (runAt list j .dep)) (j + 1) count (getD (withRun list k l) (minutes + j) 0)) (sym e) (rw own-place (I .first (runAt list k .dep) early))
+    | yes e ↦ subst (λ (j : ℕ). FirstAt (Leaves list (runAt list j .dep)) (j + 1) count (getD (withRun list k l) (minutes + j) 0)) (sym e) (rw own-place (I .first (runAt list k .dep) early))
     | no n ↦ rw (other-place (minutes + i) (λ e. n (omega arith)) (λ e. omega arith)) (I .next i (omega arith) lt)
   ]
 

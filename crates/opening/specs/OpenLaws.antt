@@ -2,13 +2,13 @@
 use Prim.Native.Nat.{ℕ, _+_, _-_, _≤_, _<_}
 use mathlib.Core.Path.{_≡_, refl, sym, ap, subst, subst₂, _∙_}
 use mathlib.Core.List.{List, [], _∷_, _++_}
-use mathlib.Core.Option.{Option, none, some}
+use mathlib.Core.Option.{none, some}
 use native.Mathlib.Omega.{arith}
-use lib.ListN.{length, length-append}
+use lib.ListN.{length}
 use Rattle.loops.specs.First.{FirstAt}
 use Rattle.loops.specs.Written.{written}
 use Rattle.kinds.specs.Limits.{noPivot, lastMinute}
-use Rattle.journeys.specs.Service.{Service, RideAt}
+use Rattle.journeys.specs.Service.{Service}
 use Rattle.journeys.specs.Tables.{Tables, of-out, of-in, Label, GoodTables}
 use Rattle.journeys.specs.Check.{Halves}
 use Rattle.journeys.specs.Rides.{Opens, ride, both}

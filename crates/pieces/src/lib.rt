@@ -188,13 +188,5 @@ pub fn find_run(runs: &[u32], count: usize, room: &[u16], s: Span) -> usize
     ensures { λ r. ⌜ FirstAt (RunIs (now (runs .entry)) s) 0 count r ⌝ }
 {
     let behind = ground::STARTS;
-    departures::find(
-        runs,
-        count,
-        &room[behind..],
-        s.from,
-        s.to,
-        s.dep,
-        s.arr,
-    )
+    departures::find(runs, count, &room[behind..], s.from, s.to, s.dep, s.arr)
 }

@@ -1,7 +1,5 @@
-use mathlib.Core.Path.{ap}
 use native.Mathlib.Omega.{arith}
 use lib.ListN.{length-set}
-use Rattle.timetable.specs.Numbers.{runAt}
 use Rattle.departures.specs.DeparturesLaws.{run-early}
 use Rattle.departures.specs.Turns.{withRun}
 use borrow.Author.Needs.{needs}

@@ -1,6 +1,5 @@
 use borrow.Author.Needs.{needs}
-use Prim.Native.Nat.{_+_, _≤_}
-use mathlib.Core.Path.{_≡_, refl, _∙_}
+use mathlib.Core.Path.{refl, _∙_}
 use native.Mathlib.Omega.{arith}
 use Rattle.timetable.specs.NumbersLaws.{good-run-at}
 use Rattle.departures.specs.DeparturesLaws.{IndexedFrom, run-early, kept-none, index-none, kept-then, index-more, index-all}

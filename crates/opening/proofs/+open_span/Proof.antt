@@ -1,7 +1,7 @@
 use borrow.Author.Needs.{needs}
 use Prim.Native.Nat.{_-_, _+_}
-use mathlib.Core.Path.{_≡_, refl, ap, sym, _∙_}
-use mathlib.Core.List.{List, [], _∷_, _++_}
+use mathlib.Core.Path.{ap, _∙_}
+use mathlib.Core.List.{List, _++_}
 use native.Mathlib.Omega.{arith}
 use lib.ListN.{length, length-append}
 use borrow.Rule.Slice.PartMut.{same-len-mid}
