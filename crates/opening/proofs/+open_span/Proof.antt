@@ -44,7 +44,7 @@ open-span-open-run-requires : (t : ℕ) → open-span-lts.Need-open-run-requires
 open-span-open-run-requires t c κs =
     let i = c .before in
     let s = i .before .before .before .before .before .before in
-    ((_, s .pre .1 .0 .by-departure), (i .if1 .taken, s .pre .1 .1 .leaves))
+    ((_, s .pre .1 .0 .by-departure), i .if1 .taken)
 
 open-span-same-length : (t : ℕ) → open-span-lts.Need-same-length (
   open-run-reads.Asked,
