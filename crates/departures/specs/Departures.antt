@@ -1,5 +1,5 @@
 -- The runs by departure: what stands in the index, and which run is looked up.
-use Prim.Native.Nat.{ℕ, _+_, _≤_, _<_}
+use Prim.Native.Nat.{ℕ, _+_, _*_, _%_, _≤_, _<_}
 use mathlib.Core.Path.{_≡_}
 use mathlib.Core.List.{List}
 use lib.ListN.{length, getD}
@@ -8,23 +8,31 @@ use Rattle.kinds.specs.Limits.{mostRuns, lastMinute}
 use Rattle.kinds.specs.declared.Run.{Run}
 use Rattle.timetable.specs.Numbers.{runAt}
 
--- "Minutes 0 to 2,879."
-abbrev pub minutes : ℕ
-minutes = lastMinute + 1
+-- a bucket a minute: the runs of one stop share a bucket only where they leave at the same minute. Which runs share one otherwise is of no
+-- matter to what is found, only to how soon.
+abbrev pub buckets : ℕ
+buckets = lastMinute + 1
 
--- a number for each minute, and one for each run
+-- the bucket of what leaves the stop u at the minute d
+unfoldable pub bucketOf : ℕ → ℕ → ℕ
+bucketOf u d = (d + 1129 * u) % buckets
+
+-- a number for each bucket, and one for each run
 abbrev pub indexRoom : ℕ
-indexRoom = minutes + mostRuns
+indexRoom = buckets + mostRuns
 
--- run i leaves at minute d
-abbrev pub Leaves : List ℕ → ℕ → ℕ → Type 0
-Leaves list d i = runAt list i .dep ≡ d
+abbrev pub bucketAt : List ℕ → ℕ → ℕ
+bucketAt list i = bucketOf (runAt list i .from) (runAt list i .dep)
 
--- at the place of each minute stands the first run that leaves then, and behind them, at the place of each run, the next run that leaves at
--- the same minute; the number of runs where there is none
+-- run i falls into bucket h
+abbrev pub Falls : List ℕ → ℕ → ℕ → Type 0
+Falls list h i = bucketAt list i ≡ h
+
+-- at the place of each bucket stands its first run, and behind them, at the place of each run, the next run of the same bucket; the number of
+-- runs where there is none
 pub record Indexed (list : List ℕ) (count : ℕ) (at : ℕ → ℕ) : Type 0 where
-  pub first : (d : ℕ) → d < minutes → FirstAt (Leaves list d) 0 count (at d)
-  pub next : (i : ℕ) → i < count → FirstAt (Leaves list (runAt list i .dep)) (i + 1) count (at (minutes + i))
+  pub first : (h : ℕ) → h < buckets → FirstAt (Falls list h) 0 count (at h)
+  pub next : (i : ℕ) → i < count → FirstAt (Falls list (bucketAt list i)) (i + 1) count (at (buckets + i))
 
 -- from this place on all is as it was
 pub record Kept (place : ℕ) (before after : List ℕ) : Type 0 where

@@ -14,7 +14,7 @@ use Rattle.tables.specs.Good.{GoodFile}
 use Rattle.timetable.specs.declared.Judged.{Judged}
 use Rattle.timetable.specs.declared.Judged.the-variants as numbers
 use Rattle.timetable.specs.Numbers.{GoodNumbers}
-use Rattle.departures.specs.Departures.{minutes, indexRoom, Indexed}
+use Rattle.departures.specs.Departures.{buckets, indexRoom, Indexed}
 
 -- "Check: 9, 10, 11, the timetable's, 21", and "With rides: after 11 those of the timetable numbers and 21": what is refused before tables
 -- and timetable are held against each other, or the stop count of both
@@ -51,4 +51,4 @@ pub record Ground (b : List ℕ) (n : ℕ) (room runs : List ℕ) (count : ℕ) 
 pub record Beside (n count : ℕ) (before after : List ℕ) : Type 0 where
   pub long : length after ≡ length before
   pub between : (p : ℕ) → 2 * n < p → p < startsRoom → getD after p 0 ≡ getD before p 0
-  pub behind : (p : ℕ) → startsRoom + (minutes + count) ≤ p → getD after p 0 ≡ getD before p 0
+  pub behind : (p : ℕ) → startsRoom + (buckets + count) ≤ p → getD after p 0 ≡ getD before p 0

@@ -4,7 +4,7 @@ use mathlib.Core.Path.{_≡_, refl, sym, ap, subst, _∙_}
 use mathlib.Core.List.{List, _++_, append-nil}
 use native.Mathlib.Omega.{arith}
 use native.Mathlib.Decide.{decLt}
-use lib.ListN.{length, getD, take, drop, length-append, length-drop, drop-of-length-le}
+use lib.ListN.{length, getD, take, drop, length-drop, drop-of-length-le}
 use lib.Dec.{eqb}
 use lib.Seq.{take-all, length-take-le, getD-take, getD-drop, getD-append-add, ext-getD}
 use borrow.Author.Tests.{eqb-true}
@@ -27,7 +27,7 @@ use Rattle.timetable.specs.declared.Judged.{Judged}
 use Rattle.timetable.specs.declared.Judged.the-variants as numbers
 use Rattle.timetable.specs.Numbers.{judgedOf, GoodNumbers}
 use Rattle.timetable.specs.NumbersLaws as timetable
-use Rattle.departures.specs.Departures.{minutes, Indexed, Kept}
+use Rattle.departures.specs.Departures.{buckets, Indexed, Kept}
 use Rattle.ground.specs.Ground.{judgedBoth, startsRoom, groundRoom, Ready, ByDeparture, Ground, Beside}
 
 -- ---- what was judged good
@@ -84,7 +84,7 @@ module _ (s : ℕ) (x : List ℕ) where
 -- ---- the room made ready: first the starts, then the runs behind them
 
 module _ {b : List ℕ} {n : ℕ} {runs : List ℕ} {count : ℕ} (before : List ℕ) {x y z : List ℕ} (G : GoodFile b n) (N : GoodNumbers n count runs) (long : groundRoom ≤ length before)
-    (e : x ≡ filled (startOf b) (2 * n + 1) before) (I : Indexed runs count (λ p. getD y p 0)) (K : Kept (minutes + count) (midOf startsRoom (length x - startsRoom) x) y)
+    (e : x ≡ filled (startOf b) (2 * n + 1) before) (I : Indexed runs count (λ p. getD y p 0)) (K : Kept (buckets + count) (midOf startsRoom (length x - startsRoom) x) y)
     (f : z ≡ putMid startsRoom (length x - startsRoom) x y) where
   long-x : length x ≡ length before
   long-x = ap length e ∙ length-filled (startOf b) (2 * n + 1) before
@@ -108,7 +108,7 @@ module _ {b : List ℕ} {n : ℕ} {runs : List ℕ} {count : ℕ} (before : List
     by-departure = record {
       numbers = N;
       long = omega (arith, same);
-      index = record { first = λ d lt. rw (high d) (I .first d lt); next = λ i lt. rw (high (minutes + i)) (I .next i lt) };
+      index = record { first = λ d lt. rw (high d) (I .first d lt); next = λ i lt. rw (high (buckets + i)) (I .next i lt) };
     };
   }
 
@@ -127,7 +127,7 @@ module _ {b : List ℕ} {n : ℕ} {runs : List ℕ} {count : ℕ} (before : List
 pub lent-index : {n : ℕ} {room runs : List ℕ} {count : ℕ} → ByDeparture n room runs count → Indexed runs count (λ p. getD (midOf startsRoom (length room - startsRoom) room) p 0)
 lent-index {room = room} D = record {
   first = λ d lt. rw (mid-at startsRoom room d) (D .index .first d lt);
-  next = λ i lt. rw (mid-at startsRoom room (minutes + i)) (D .index .next i lt);
+  next = λ i lt. rw (mid-at startsRoom room (buckets + i)) (D .index .next i lt);
 }
 
 -- ---- what is ready, as it is read
@@ -163,19 +163,19 @@ set-rising b side o = omega (arith, tables-start b side o, tables-end b side o)
 -- ---- no second room meets the contract
 pub ground-one : (b : List ℕ) (n : ℕ) (runs : List ℕ) (count : ℕ) (before x y : List ℕ) → Ground b n x runs count → Beside n count before x → Ground b n y runs count → Beside n count before y → x ≡ y
 ground-one b n runs count before x y G B H C =
-    ext-getD 0 x y (B .long ∙ sym (C .long)) (λ p _. at p (decLt (2 * n) p) (decLt p startsRoom) (decLt p (startsRoom + minutes)) (decLt p (startsRoom + (minutes + count))))
+    ext-getD 0 x y (B .long ∙ sym (C .long)) (λ p _. at p (decLt (2 * n) p) (decLt p startsRoom) (decLt p (startsRoom + buckets)) (decLt p (startsRoom + (buckets + count))))
   where
-    at : (p : ℕ) → Dec (2 * n < p) → Dec (p < startsRoom) → Dec (p < startsRoom + minutes) → Dec (p < startsRoom + (minutes + count)) → getD x p 0 ≡ getD y p 0
+    at : (p : ℕ) → Dec (2 * n < p) → Dec (p < startsRoom) → Dec (p < startsRoom + buckets) → Dec (p < startsRoom + (buckets + count)) → getD x p 0 ≡ getD y p 0
     at p (no h) d e f = G .ready .are p (omega arith) ∙ sym (H .ready .are p (omega arith))
     at p (yes h) (yes k) e f = B .between p h k ∙ sym (C .between p h k)
     at p (yes h) (no k) (yes l) f =
         let q : p ≡ startsRoom + (p - startsRoom) = omega arith in
-        let m : p - startsRoom < minutes = omega arith in
+        let m : p - startsRoom < buckets = omega arith in
         subst (λ (r : ℕ). getD x r 0 ≡ getD y r 0) (sym q) (first-one (G .by-departure .index .first (p - startsRoom) m) (H .by-departure .index .first (p - startsRoom) m))
     at p (yes h) (no k) (no l) (yes m) =
-        let i = p - startsRoom - minutes in
-        let q : p ≡ startsRoom + (minutes + (p - startsRoom - minutes)) = omega arith in
-        let lt : p - startsRoom - minutes < count = omega arith in
+        let i = p - startsRoom - buckets in
+        let q : p ≡ startsRoom + (buckets + (p - startsRoom - buckets)) = omega arith in
+        let lt : p - startsRoom - buckets < count = omega arith in
         subst (λ (r : ℕ). getD x r 0 ≡ getD y r 0) (sym q)
-        (first-one (G .by-departure .index .next (p - startsRoom - minutes) lt) (H .by-departure .index .next (p - startsRoom - minutes) lt))
+        (first-one (G .by-departure .index .next (p - startsRoom - buckets) lt) (H .by-departure .index .next (p - startsRoom - buckets) lt))
     at p (yes h) (no k) (no l) (no m) = B .behind p (omega arith) ∙ sym (C .behind p (omega arith))

@@ -2,12 +2,12 @@
 use Prim.Native.Nat.{ℕ, _+_, _≤_, _<_}
 use mathlib.Core.Path.{_≡_, refl, sym, ap, subst, subst₂, _∙_}
 use mathlib.Core.List.{List, _++_}
-use mathlib.Core.Logic.{_⊎_, inl, inr}
+use mathlib.Core.Logic.{inl, inr}
 use mathlib.Core.Bool.{Bool, true, false}
 use mathlib.Core.Option.{Option, none, some}
 use native.Mathlib.Omega.{arith}
 use native.Mathlib.Nat.{le-refl}
-use native.Mathlib.Decide.{decLe, decLt}
+use native.Mathlib.Decide.{decLt}
 use Rattle.loops.specs.First.{Passed, FirstAt}
 use Rattle.loops.specs.FirstLaws.{passed-none, passed-more, first-extend}
 use Rattle.loops.specs.Tells.{Tells}
@@ -19,7 +19,7 @@ use Rattle.journeys.specs.Service.{Service}
 use Rattle.journeys.specs.Tables.{outs, ins, Tables, Entry, of-out, of-in, Label, GoodTables, JoinAt}
 use Rattle.journeys.specs.Rides as rides
 use Rattle.journeys.specs.Rides.{Opens, both, Chosen}
-use Rattle.journeys.specs.SketchLaws.{entry-at, LabelWith, label-later, label-last, one-by-dep, one-by-arr}
+use Rattle.journeys.specs.SketchLaws.{entry-at, LabelWith, one-by-dep, one-by-arr}
 use Rattle.journeys.specs.RidesLaws.{Parts, parts}
 use Rattle.tables.specs.File.{tablesOf, labelAt, pivotOf}
 use Rattle.tables.specs.TablesLaws.{pivot-some, tables-stops, good-tables}
@@ -203,8 +203,8 @@ module _ {T : Tables} (G : GoodTables T) {u v d a : ℕ} where
 
     -- it can be opened there
     pub way-in : (n : ℕ) → T .stops ≡ n → u < n → v < n → (p : ℕ) → Goes T u v d a p → SpanIn n (record { from = u; to = v; dep = d; arr = a; pivot = p })
-    way-in n e hu hv p (by-label k) = record { from-stop = hu; to-stop = hv; pivot-stop = λ f. omega (arith, label-pivot G p k f); leaves = omega (arith, label-later G k, label-last G k) }
-    way-in n e hu hv p (by-hub f L) = record { from-stop = hu; to-stop = hv; pivot-stop = λ _. omega (arith, G .below (L .join .out-label)); leaves = omega (arith, G .later (L .join .out-label), G .last (L .join .out-label)) }
+    way-in n e hu hv p (by-label k) = record { from-stop = hu; to-stop = hv; pivot-stop = λ f. omega (arith, label-pivot G p k f) }
+    way-in n e hu hv p (by-hub f L) = record { from-stop = hu; to-stop = hv; pivot-stop = λ _. omega (arith, G .below (L .join .out-label)) }
 
     -- what is opened there is the rides of the answer
     module _ {S : Service} {p : ℕ} where

@@ -2,13 +2,13 @@
 use Prim.Native.Nat.{ℕ, _+_, _-_, _≤_, _<_}
 use mathlib.Core.Path.{_≡_, refl, sym, ap, subst, subst₂, _∙_}
 use mathlib.Core.List.{List, [], _∷_, _++_}
-use mathlib.Core.Option.{Option, none, some}
+use mathlib.Core.Option.{none, some}
 use native.Mathlib.Omega.{arith}
-use lib.ListN.{length, length-append}
+use lib.ListN.{length}
 use Rattle.loops.specs.First.{FirstAt}
 use Rattle.loops.specs.Written.{written}
 use Rattle.kinds.specs.Limits.{noPivot, lastMinute}
-use Rattle.journeys.specs.Service.{Service, RideAt}
+use Rattle.journeys.specs.Service.{Service}
 use Rattle.journeys.specs.Tables.{Tables, of-out, of-in, Label, GoodTables}
 use Rattle.journeys.specs.Check.{Halves}
 use Rattle.journeys.specs.Rides.{Opens, ride, both}
@@ -61,10 +61,10 @@ label-pivot {T} G {u} {v} {d} {a} p l n = go (subst (Label T u v d a) (pivot-som
 module _ {T : Tables} (G : GoodTables T) {s : Span} {h : Meeting} (M : MeetAt T s h) where
   -- the parts' stops are stops
   pub first-in : (n : ℕ) → T .stops ≡ n → SpanIn n (firstOf s h)
-  first-in n e = record { from-stop = omega (arith, label-from G (M .first)); to-stop = omega (arith, label-to G (M .first)); pivot-stop = λ f. omega (arith, label-pivot G (h .first) (M .first) f); leaves = omega (arith, label-later G (M .first), label-last G (M .first)) }
+  first-in n e = record { from-stop = omega (arith, label-from G (M .first)); to-stop = omega (arith, label-to G (M .first)); pivot-stop = λ f. omega (arith, label-pivot G (h .first) (M .first) f) }
 
   pub second-in : (n : ℕ) → T .stops ≡ n → SpanIn n (secondOf s h)
-  second-in n e = record { from-stop = omega (arith, label-from G (M .second)); to-stop = omega (arith, label-to G (M .second)); pivot-stop = λ f. omega (arith, label-pivot G (h .second) (M .second) f); leaves = omega (arith, label-later G (M .second), label-last G (M .second)) }
+  second-in n e = record { from-stop = omega (arith, label-from G (M .second)); to-stop = omega (arith, label-to G (M .second)); pivot-stop = λ f. omega (arith, label-pivot G (h .second) (M .second) f) }
 
   -- and they are shorter
   pub first-shorter : h .mid - s .dep < s .arr - s .dep

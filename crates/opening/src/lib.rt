@@ -7,7 +7,7 @@ use pieces::Span;
 ghost use mathlib.Core.Path.{_≡_};
 ghost use Prim.Native.Nat.{ℕ, min, _≤_, _<_};
 ghost use Rattle.loops.specs.Tells.{Tells};
-ghost use Rattle.kinds.specs.Limits.{noPivot, lastMinute};
+ghost use Rattle.kinds.specs.Limits.{noPivot};
 ghost use Rattle.journeys.specs.Tables.{Tables};
 ghost use Rattle.journeys.specs.Rides.{Chosen};
 ghost use Rattle.tables.specs.File.{tablesOf, labelsOf};
@@ -43,7 +43,6 @@ fn lesser(a: usize, b: usize) -> usize
 fn open_run(runs: &[u32], count: usize, room: &[u16], s: Span, list: &mut [u32]) -> Opened
     requires { ⌜ ((n : ℕ) × ByDeparture n (now room) (now runs) count) ⌝ }
     requires { ⌜ s .pivot ≡ noPivot ⌝ }
-    requires { ⌜ s .dep ≤ lastMinute ⌝ }
     ensures { λ r. ⌜ ((stops : ℕ) (T : Tables) → OpenedAs (SpanOpens (serviceOf stops count (now (runs .entry))) T s) (now (list .entry)) (now (list .exit)) r) ⌝ }
 {
     let i = pieces::find_run(runs, count, room, s);

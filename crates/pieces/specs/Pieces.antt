@@ -3,7 +3,7 @@ use Prim.Native.Nat.{ℕ, min, _≤_, _<_}
 use mathlib.Core.Path.{_≡_}
 use mathlib.Core.List.{List}
 use mathlib.Core.Option.{Option}
-use Rattle.kinds.specs.Limits.{noPivot, lastMinute}
+use Rattle.kinds.specs.Limits.{noPivot}
 use Rattle.kinds.specs.declared.Label as kinds
 use Rattle.journeys.specs.Tables.{Side, Tables, Entry, Label}
 use Rattle.journeys.specs.Check.{Halves}
@@ -50,12 +50,11 @@ abbrev pub SoughtAs : Tables → ℕ → ℕ → Moment → Sought → Type 0
 SoughtAs T u v m (Found l) = FoundLabel T u v m l
 SoughtAs T u v m Missing = ¬ (LabelWith T u v (Exactly m))
 
--- the span's stops are stops, and so is its pivot if it has one; it leaves at one of the minutes
+-- the span's stops are stops, and so is its pivot if it has one
 pub record SpanIn (n : ℕ) (s : Span) : Type 0 where
   pub from-stop : s .from < n
   pub to-stop : s .to < n
   pub pivot-stop : (s .pivot ≡ noPivot → ⊥) → s .pivot < n
-  pub leaves : s .dep ≤ lastMinute
 
 -- "the label u to p that leaves at the same minute, then the label p to v that arrives at the same minute, the first arriving no later than
 -- the second leaves", or that they are not there

@@ -2,13 +2,13 @@
 use Prim.Native.Nat.{ℕ, _+_, _*_, _≤_, _<_}
 use mathlib.Core.Path.{_≡_, refl, sym, ap, subst, _∙_}
 use mathlib.Core.List.{List}
-use mathlib.Core.Logic.{_⊎_, inl, inr}
+use mathlib.Core.Logic.{inl, inr}
 use mathlib.Core.Bool.{Bool, true, false}
 use mathlib.Core.Option.{Option}
 use native.Mathlib.Omega.{arith}
 use native.Mathlib.Nat.{le-of-lt, min-eq-left, min-eq-right}
 use native.Mathlib.Decide.{decLt, ℕ-discrete}
-use lib.ListN.{length, getD}
+use lib.ListN.{getD}
 use Rattle.loops.specs.First.{FirstAt}
 use Rattle.loops.specs.Tells.{Tells}
 use Rattle.loops.specs.TellsLaws.{told-true, told-false}
@@ -78,7 +78,7 @@ module _ {T : Tables} (G : GoodTables T) {side : Side} {s hub : ℕ} where
       go : Past T hub m i → Past T hub m k
       go (inl x) = inl (omega (arith, up))
       go (inr x) = elim (ℕ-discrete (T .hub k) hub) [
-        yes e ↦ inr (e, not-before-rises m (with-hub i le (omega arith) (x .0)) (with-hub k (omega arith) h e) lt (x .1))
+        | yes e ↦ inr (e, not-before-rises m (with-hub i le (omega arith) (x .0)) (with-hub k (omega arith) h e) lt (x .1))
         | no n ↦ inl (omega (arith, up, x .0))
       ]
 

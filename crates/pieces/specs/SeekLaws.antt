@@ -1,7 +1,7 @@
 -- Laws of the search for a label: what the tests say, and that a stretch can be halved.
 use Prim.Native.Nat.{ℕ, _+_, _-_, _≤_, _<_}
 use mathlib.Core.Path.{_≡_, sym, subst}
-use mathlib.Core.Logic.{_⊎_, inl, inr}
+use mathlib.Core.Logic.{inl, inr}
 use mathlib.Core.Bool.{Bool, true, false}
 use native.Mathlib.Omega.{arith}
 use native.Mathlib.Decide.{decLt}
@@ -93,6 +93,6 @@ module _ {P : ℕ → Type 0} {from to : ℕ} where
       where
         none′ : (k : ℕ) → from ≤ k → k < low → P k → ⊥
         none′ k le lt p = elim (decLt k (low - 1)) [
-          yes l ↦ H .before (omega arith) (up k (low - 1) le l (omega (arith, H .rising, H .most)) p)
+          | yes l ↦ H .before (omega arith) (up k (low - 1) le l (omega (arith, H .rising, H .most)) p)
           | no l ↦ H .before (omega arith) (subst P (omega arith) p)
         ]

@@ -5,7 +5,7 @@ ghost use mathlib.Core.Path.{_≡_};
 ghost use Prim.Native.Nat.{ℕ, _≤_, _<_};
 ghost use Rattle.loops.specs.First.{FirstAt};
 ghost use Rattle.loops.specs.Tells.{Tells};
-ghost use Rattle.kinds.specs.Limits.{noPivot, lastMinute};
+ghost use Rattle.kinds.specs.Limits.{noPivot};
 ghost use Rattle.journeys.specs.Tables.{Side};
 ghost use Rattle.tables.specs.File.{tablesOf, labelsOf};
 ghost use Rattle.tables.specs.Good.{Room};
@@ -184,17 +184,8 @@ pub fn halves(tables: &[u8], n: u16, starts: &[u16], s: Span) -> Parted
 // The lowest-numbered run with these ends and minutes, or the number of runs.
 pub fn find_run(runs: &[u32], count: usize, room: &[u16], s: Span) -> usize
     requires { ⌜ ((n : ℕ) × ByDeparture n (now room) (now runs) count) ⌝ }
-    requires { ⌜ s .dep ≤ lastMinute ⌝ }
     ensures { λ r. ⌜ FirstAt (RunIs (now (runs .entry)) s) 0 count r ⌝ }
 {
     let behind = ground::STARTS;
-    departures::find(
-        runs,
-        count,
-        &room[behind..],
-        s.from,
-        s.to,
-        s.dep,
-        s.arr,
-    )
+    departures::find(runs, count, &room[behind..], s.from, s.to, s.dep, s.arr)
 }

@@ -1,21 +1,20 @@
 -- Over tables that the check accepts, an ask with rides speaks of the timetable's journeys; over any good tables the rides are a journey with
 -- the answered pair, and a list of 2,879 numbers is never too short.
-use Prim.Native.Nat.{ℕ, _≤_, _<_}
+use Prim.Native.Nat.{ℕ, _≤_}
 use mathlib.Core.Path.{_≡_, sym, ap, _∙_}
 use mathlib.Core.List.{List}
 use mathlib.Core.Logic.{_≢_}
 use native.Mathlib.Omega.{arith}
-use lib.ListN.{length}
 use Rattle.kinds.specs.Limits.{lastMinute}
 use Rattle.kinds.specs.Refusals.{roomShort, ridesMissing, refusal}
 use Rattle.kinds.specs.declared.Refusal.{Refusal}
 use Rattle.journeys.specs.Service.{Service, GoodService}
-use Rattle.journeys.specs.Journey.{Journey, RidesOf}
+use Rattle.journeys.specs.Journey.{RidesOf}
 use Rattle.journeys.specs.Tables.{Tables, GoodTables}
 use Rattle.journeys.specs.Check.{AllSupported, Accepted}
 use Rattle.journeys.specs.AcceptedLaws.{accepted-best, accepted-nothing}
 use Rattle.journeys.specs.RidesLaws.{chosen-journey, chosen-all}
-use Rattle.tables.specs.File.{stopsOf, tablesOf}
+use Rattle.tables.specs.File.{tablesOf}
 use Rattle.tables.specs.TablesLaws.{tables-stops, good-tables}
 use Rattle.timetable.specs.Numbers.{serviceOf}
 use Rattle.timetable.specs.NumbersLaws.{good-service, service-stops}
@@ -28,7 +27,7 @@ use Rattle.rides.specs.declared.Listed.{Listed}
 use Rattle.rides.specs.declared.RidesAnswer.{RidesAnswer}
 use Rattle.rides.specs.declared.RidesAnswer.the-variants.{At, No}
 use Rattle.rides.specs.Lists.{ridesAsked, ListedAs, RefusedAs, no-journey, missing, short, Lists}
-use Rattle.rides.specs.ListsLaws.{Asking, asked-good, few-rides}
+use Rattle.rides.specs.ListsLaws.{asked-good, few-rides}
 use Rattle.rides.specs.Accepted as truly
 use Rattle.rides.specs.Accepted.{TrulyListed, TrulyRefused, TrulyLists}
 

@@ -1,6 +1,6 @@
 -- Laws of the asks with rides, for the functions that answer them: what a good ask has, what is listed, and that no second answer and no
 -- second list meet the contract.
-use Prim.Native.Nat.{ℕ, _-_, _≤_, _<_}
+use Prim.Native.Nat.{ℕ, _-_, _≤_}
 use mathlib.Core.Path.{_≡_, refl, sym, ap, subst, subst₂, _∙_}
 use mathlib.Core.List.{List, _++_}
 use native.Mathlib.Omega.{arith}

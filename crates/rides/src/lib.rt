@@ -8,7 +8,7 @@ use kinds::Refusal;
 use opening::Opened;
 use tables::TablesRead;
 ghost use mathlib.Core.Path.{_≡_};
-ghost use Prim.Native.Nat.{ℕ, _≤_, _<_};
+ghost use Prim.Native.Nat.{_<_};
 ghost use lib.ListN.{length};
 ghost use Rattle.loops.specs.Zero.{zeros};
 ghost use Rattle.journeys.specs.Criteria.{Best};

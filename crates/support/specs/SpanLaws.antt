@@ -1,6 +1,6 @@
 -- Laws of support: the label that a set's number and a label read say, and what the look-ups tell of it.
 use Prim.Native.Nat.{ℕ, _+_, _*_, _%_, _≤_, _<_}
-use mathlib.Core.Path.{_≡_, refl, sym, ap, _∙_}
+use mathlib.Core.Path.{_≡_, refl, ap, _∙_}
 use mathlib.Core.List.{List}
 use mathlib.Core.Logic.{_⊎_, inl, inr}
 use mathlib.Core.Option.{Option}
@@ -91,10 +91,10 @@ module _ {b : List ℕ} {n : ℕ} (g : GoodFile b n) {set k : ℕ} (real : set <
         go : Dec (set % 2 ≡ 0) → SpanIn n w
         go (yes e) =
             let x = entry-label g (own-entry outs (omega arith)) in
-            rw (by-out e) (record { from-stop = omega arith; to-stop = omega (arith, x .low); pivot-stop = pivot-in (x .pivoted); leaves = omega (arith, x .later, x .last) })
+            rw (by-out e) (record { from-stop = omega arith; to-stop = omega (arith, x .low); pivot-stop = pivot-in (x .pivoted) })
         go (no e) =
             let x = entry-label g (own-entry ins (omega arith)) in
-            rw (by-in e) (record { from-stop = omega (arith, x .low); to-stop = omega arith; pivot-stop = pivot-in (x .pivoted); leaves = omega (arith, x .later, x .last) })
+            rw (by-in e) (record { from-stop = omega (arith, x .low); to-stop = omega arith; pivot-stop = pivot-in (x .pivoted) })
 
 -- ---- support, with a pivot and without
 

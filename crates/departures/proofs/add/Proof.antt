@@ -1,30 +1,29 @@
-use mathlib.Core.Path.{ap}
+use mathlib.Core.Path.{ap, _∙_}
 use native.Mathlib.Omega.{arith}
 use lib.ListN.{length-set}
-use Rattle.timetable.specs.Numbers.{runAt}
-use Rattle.departures.specs.DeparturesLaws.{run-early}
+use Rattle.departures.specs.Departures.{bucketOf}
 use Rattle.departures.specs.Turns.{withRun}
 use borrow.Author.Needs.{needs}
 use Rattle.departures.proofs.add.Statement.{statement}
 use Rattle.departures.proofs.add.Tie as tie
 use Rattle.departures.proofs.add.Reads as reads
 use Rattle.departures.proofs.add.Lts as lts
+use Rattle.departures.proofs.bucket_of.Reads as bucket-of-reads
 use Rattle.timetable.proofs.run_at.Reads as run-at-reads
 
 run-at-requires : tie.Need-run-at-requires
 run-at-requires c κs = search needs
 
-cast-d : tie.Need-cast-d
-cast-d c = search needs
+bucket-of-requires : tie.Need-bucket-of-requires
+bucket-of-requires c κs = search needs
 
 mul-index : tie.Need-mul-index
-mul-index c = search needs
+mul-index c = omega (arith, c .bucket-of .ensures .1)
 
 slice-read-index : tie.Need-slice-read-index
 slice-read-index c =
-    let r = c .before .before in
-    let s = r .before .before .before in
-    omega (arith, run-early (s .pre .0) (r .run-at .ensures), s .pre .1 .1)
+    let s = c .before .before .before .before .before in
+    omega (arith, c .before .bucket-of .ensures .1, s .pre .1 .1)
 
 add-index : tie.Need-add-index
 add-index c = search needs
@@ -39,27 +38,27 @@ cast-index : tie.Need-cast-index
 cast-index c = search needs
 
 mul-index-3 : tie.Need-mul-index-3
-mul-index-3 c = search needs
+mul-index-3 c = omega (arith, c .before .bucket-of .ensures .1)
 
 slice-write-index-2 : tie.Need-slice-write-index-2
 slice-write-index-2 c =
-    let r = c .before .before in
-    let s = r .before .before .before in
-    simp length-set (omega (arith, run-early (s .pre .0) (r .run-at .ensures), s .pre .1 .1))
+    let s = c .before .before .before .before .before in
+    simp length-set (omega (arith, c .before .bucket-of .ensures .1, s .pre .1 .1))
 
 same-length : tie.Need-same-length
 same-length c = search needs
 
 returns : tie.Need-returns
 unfolding withRun
-returns c = rw (c .before .before .run-at .ensures)
+returns c =
+    rw (c .before .bucket-of .ensures .0 ∙ ap (λ r. bucketOf (r .from) (r .dep)) (c .before .before .run-at .ensures))
 
 pub add-spec : {M : Type 1} → statement M
 add-spec =
     tie.close
     (tie.spec
     run-at-requires
-    cast-d
+    bucket-of-requires
     mul-index
     slice-read-index
     add-index

@@ -1,9 +1,8 @@
 use borrow.Author.Needs.{needs}
-use Prim.Native.Nat.{_+_, _≤_}
-use mathlib.Core.Path.{_≡_, refl, _∙_}
+use mathlib.Core.Path.{refl, _∙_}
 use native.Mathlib.Omega.{arith}
 use Rattle.timetable.specs.NumbersLaws.{good-run-at}
-use Rattle.departures.specs.DeparturesLaws.{IndexedFrom, run-early, kept-none, index-none, kept-then, index-more, index-all}
+use Rattle.departures.specs.DeparturesLaws.{IndexedFrom, kept-none, index-none, kept-then, index-more, index-all}
 use Rattle.departures.proofs.index.Statement.{statement}
 use Rattle.departures.proofs.index.Tie as tie
 use Rattle.departures.proofs.index.Reads as reads
@@ -50,7 +49,7 @@ loop-again c =
     let s = b .before .before .before .before in
     let I = at .loop .inv in
     let K = kept-none (s .args .runs .now) (s .args .count) (s .args .index .now) (b .begin .ensures) in
-    index-more (s .args .runs .now) _ I (omega (arith, l .loop-test .taken)) (run-early (good-run-at (s .pre .0 .1) _ (omega (arith, I .within, l .loop-test .taken))) refl) (omega (arith, K .long, s .pre .1)) (c .before .before .add .ensures)
+    index-more (s .args .runs .now) _ I (omega (arith, l .loop-test .taken)) (omega (arith, K .long, s .pre .1)) (c .before .before .add .ensures)
 
 same-length : tie.Need-same-length Inv-loop μ-loop
 same-length c =

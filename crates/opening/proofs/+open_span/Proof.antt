@@ -1,7 +1,7 @@
 use borrow.Author.Needs.{needs}
 use Prim.Native.Nat.{_-_, _+_}
-use mathlib.Core.Path.{_≡_, refl, ap, sym, _∙_}
-use mathlib.Core.List.{List, [], _∷_, _++_}
+use mathlib.Core.Path.{ap, _∙_}
+use mathlib.Core.List.{List, _++_}
 use native.Mathlib.Omega.{arith}
 use lib.ListN.{length, length-append}
 use borrow.Rule.Slice.PartMut.{same-len-mid}
@@ -44,7 +44,7 @@ open-span-open-run-requires : (t : ℕ) → open-span-lts.Need-open-run-requires
 open-span-open-run-requires t c κs =
     let i = c .before in
     let s = i .before .before .before .before .before .before in
-    ((_, s .pre .1 .0 .by-departure), (i .if1 .taken, s .pre .1 .1 .leaves))
+    ((_, s .pre .1 .0 .by-departure), i .if1 .taken)
 
 open-span-same-length : (t : ℕ) → open-span-lts.Need-same-length (
   open-run-reads.Asked,

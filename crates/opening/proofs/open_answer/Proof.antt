@@ -1,4 +1,3 @@
-use native.Mathlib.Omega.{arith}
 use mathlib.Core.Path.{_∙_}
 use Rattle.loops.specs.ZeroLaws.{zeros-as}
 use Rattle.tables.specs.TablesLaws.{good-tables}

@@ -17,7 +17,7 @@ returns : tie.Need-returns
 returns c =
     let f = c .before in
     let s = f .before .before .before .before in
-    λ stops T. run-missing (s .args .runs .now) (s .args .s) (f .find-run .ensures) (s .pre .1 .0) stops T (c .if1 .taken)
+    λ stops T. run-missing (s .args .runs .now) (s .args .s) (f .find-run .ensures) (s .pre .1) stops T (c .if1 .taken)
 
 returns-2 : tie.Need-returns-2
 returns-2 c =
@@ -26,7 +26,7 @@ returns-2 c =
     λ stops T.
     record {
       rides = f .find-run .result ∷ [];
-      are = run-opens (s .args .runs .now) (s .args .s) (f .find-run .ensures) (s .pre .1 .0) stops T (c .before .if1 .left);
+      are = run-opens (s .args .runs .now) (s .args .s) (f .find-run .ensures) (s .pre .1) stops T (c .before .if1 .left);
       count = refl;
       holds = written-empty _ _ (omega (arith, c .if2 .taken));
     }
@@ -47,7 +47,7 @@ returns-3 c =
     λ stops T.
     record {
       rides = f .find-run .result ∷ [];
-      are = run-opens (s .args .runs .now) (s .args .s) (f .find-run .ensures) (s .pre .1 .0) stops T (c .before .if1 .left);
+      are = run-opens (s .args .runs .now) (s .args .s) (f .find-run .ensures) (s .pre .1) stops T (c .before .if1 .left);
       count = refl;
       holds = written-one (f .find-run .result) (s .args .list .now) (omega (arith, c .if2 .left));
     }

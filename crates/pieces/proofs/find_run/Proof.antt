@@ -23,8 +23,8 @@ part-find-end c = search needs
 find-requires : tie.Need-find-requires
 find-requires c κs =
     let s = c .before .before .before in
-    let D = s .pre .0 .1 in
-    ((_, D .numbers), (omega (arith, mid-long startsRoom (s .args .room .now) (omega (arith, D .long)), D .long, D .numbers .few-runs), (lent-index D, s .pre .1)))
+    let D = s .pre .1 in
+    ((_, D .numbers), (omega (arith, mid-long startsRoom (s .args .room .now) (omega (arith, D .long)), D .long, D .numbers .few-runs), lent-index D))
 
 returns : tie.Need-returns
 returns c = search needs

@@ -1,8 +1,6 @@
 use borrow.Author.Needs.{needs}
 use Prim.Native.Nat.{_-_}
-use native.Mathlib.Omega.{arith}
 use Rattle.tables.specs.File.{tablesOf}
-use Rattle.tables.specs.TablesLaws.{good-tables, tables-stops}
 use Rattle.pieces.specs.Seek.{Past}
 use Rattle.pieces.specs.SeekLaws.{past-true, past-false, Halved, halved-begin, halved-low, halved-high, halved-end}
 use Rattle.pieces.specs.PiecesLaws.{set-rises}

@@ -1,5 +1,3 @@
-use mathlib.Core.Path.{subst}
-use Rattle.asks.specs.Found.{FoundIn}
 use Rattle.rides.specs.Lists.{no-journey}
 use borrow.Author.Needs.{needs}
 use Rattle.rides.proofs.list_best.Statement.{statement}

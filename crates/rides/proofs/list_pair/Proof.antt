@@ -1,4 +1,4 @@
-use mathlib.Core.Path.{sym, _∙_}
+use mathlib.Core.Path.{_∙_}
 use native.Mathlib.Omega.{arith}
 use Rattle.loops.specs.ZeroLaws.{zeros-as}
 use Rattle.tables.specs.TablesLaws.{good-tables}
