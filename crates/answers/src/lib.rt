@@ -82,7 +82,7 @@ pub fn rides_in(answer: RidesAnswer) -> u32
 }
 
 // Where the code of stop j stands.
-fn code_at(codes: &[u32], j: usize) -> Code
+pub fn code_at(codes: &[u32], j: usize) -> Code
     requires { ⌜ 2 * j + 2 ≤ length (now codes) ⌝ }
     ensures { λ r. ⌜ r ≡ codeAt (now (codes .entry)) j ⌝ }
 {
