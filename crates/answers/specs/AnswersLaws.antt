@@ -9,6 +9,7 @@ use lib.Dec.{eqb, leb}
 use borrow.Author.Tests.{leb-true}
 use Rattle.loops.specs.Chain.{past, stays}
 use Rattle.loops.specs.Every.{allB}
+use Rattle.loops.specs.Zero.{zeros}
 use Rattle.kinds.specs.Limits.{mostCode, runNumbers, mostStops, runsRoom}
 use Rattle.kinds.specs.Kinds.{isCodeByte, isCodeLength}
 use Rattle.kinds.specs.KindsLaws.{GoodRun}
@@ -27,7 +28,7 @@ use Rattle.asks.specs.declared.AskRead.the-variants as ask
 use Rattle.rides.specs.declared.RidesAnswer.{RidesAnswer}
 use Rattle.rides.specs.declared.RidesAnswer.the-variants.{At, No}
 use Rattle.rides.specs.Lists.{ridesAsked, Lists}
-use Rattle.rides.specs.ListsLaws.{lists-one}
+use Rattle.rides.specs.ListsLaws.{lists-one, lists-lent}
 use Rattle.askline.specs.declared.LineRead.{LineRead}
 use Rattle.askline.specs.declared.LineRead.the-variants as line
 use Rattle.printed.specs.Wrote.{CodeIn}
@@ -44,6 +45,14 @@ pub printed-one : {s codes b : List ℕ} {stops count : ℕ} {runs : List ℕ} {
 printed-one {s} {codes} {b} {stops} {count} {runs} {lent} {read} {before} p q =
     let z = gets-one b stops count runs lent read before (p .list) (q .list) (p .answer) (q .answer) (p .gets) (q .gets) in
     p .is ∙ ap₂ (λ l x. printedFor s codes runs l x) (z .1) (z .0) ∙ sym (q .is)
+
+-- only the length of the lent list counts
+pub gets-lent : (b : List ℕ) (stops count : ℕ) (runs : List ℕ) (lent : ℕ) (read : LineRead) (before other after : List ℕ) (x : RidesAnswer) →
+    length before ≡ length other → LineGets b stops count runs lent read before after x → LineGets b stops count runs lent read other after x
+unfolding zeros
+gets-lent b stops count runs lent (line.No k) before other after x n f = (f .0, f .1 ∙ ap (λ (m : ℕ). replicate m 0) n)
+gets-lent b stops count runs lent (line.Asked q) before other after x n f =
+    lists-lent (serviceOf stops count runs) (tablesOf b) (ridesAsked b stops count runs lent (q .from) (q .to) (q .wanted)) before other after x n f
 
 -- ---- every listed ride can be printed
 

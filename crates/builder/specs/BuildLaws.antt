@@ -66,6 +66,17 @@ drop-zeros (suc k) (suc n) =
     let e : n - k ≡ suc n - suc k = omega arith in
     drop-zeros k n ∙ ap (λ (m : ℕ). replicate m 0) e
 
+-- what was built is within what is lent
+module _ {lent n k : ℕ} {tables : List ℕ} where
+  built-in : {S : Service} → BuiltOf S lent (Built n k) tables → n ≤ lent
+  built-in (over j R h p q) = let z : _≡_ {A = ℕ} 0 1 = cc in absurd (omega arith)
+  built-in (short j R h l p q) = let z : _≡_ {A = ℕ} 0 1 = cc in absurd (omega arith)
+  built-in {S} (built j f R h l g m p q) = let e : n ≡ placeOf (S .stops) j = cc in omega arith
+
+  pub built-within : {stops count : ℕ} {runs : List ℕ} {work : ℕ} → BuildOf stops count runs work lent (Built n k) tables → n ≤ lent
+  built-within (refused r e p q) = let z : _≡_ {A = ℕ} 0 1 = cc in absurd (omega arith)
+  built-within (good e b) = built-in b
+
 -- ---- one result at most
 
 -- the bytes of a part are bytes

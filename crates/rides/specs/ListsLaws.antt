@@ -92,6 +92,21 @@ same-zeros : (l m : List ℕ) → length l ≡ length m → zeros l ≡ zeros m
 unfolding zeros
 same-zeros l m e = ap (λ (n : ℕ). replicate n 0) e
 
+module _ (S : Service) (T : Tables) where
+  -- only the length of the lent list counts
+  pub lists-lent : (k : AskRead) (before other after : List ℕ) (r : RidesAnswer) → length before ≡ length other → Lists S T k before after r → Lists S T k other after r
+  lists-lent (ask.No k) before other after r n x = (x .0, x .1 ∙ same-zeros before other n)
+  lists-lent (ask.Good q) before other after (At j) n x =
+      record {
+        best = x .best;
+        rides = x .rides;
+        chosen = x .chosen;
+        count = x .count;
+        fits = omega (arith, x .fits);
+        holds = x .holds ∙ ap (λ (m : ℕ). x .rides ++ replicate (m - length (x .rides)) 0) n;
+      }
+  lists-lent (ask.Good q) before other after (No r) n x = (subst (λ (m : ℕ). RefusedAs S T q m r) n (x .0), x .1 ∙ same-zeros before other n)
+
 module _ (S : Service) (T : Tables) (q : Asked) where
   -- the number of rides is small
   pub few-rides : GoodTables T → {d a : ℕ} {l : List ℕ} → Best (Sketch T (q .from) (q .to)) (q .criterion) d a → Chosen S T (q .from) (q .to) d a l → length l ≤ lastMinute
@@ -109,21 +124,9 @@ module _ (S : Service) (T : Tables) (q : Asked) where
     holds = L .holds ∙ ap (written (L .rides)) z ∙ written-zeros (L .rides) before (omega (arith, L .count));
   }
 
-  -- only the length of the lent list counts
+  -- the list was zeroed first
   pub lists-over : (before zeroed after : List ℕ) (r : RidesAnswer) → zeroed ≡ zeros before → Lists S T (ask.Good q) zeroed after r → Lists S T (ask.Good q) before after r
-  lists-over before zeroed after (At j) e x =
-      let n : length zeroed ≡ length before = ap length e ∙ length-zeros before in
-      record {
-        best = x .best;
-        rides = x .rides;
-        chosen = x .chosen;
-        count = x .count;
-        fits = omega (arith, x .fits);
-        holds = x .holds ∙ ap (λ (m : ℕ). x .rides ++ replicate (m - length (x .rides)) 0) n;
-      }
-  lists-over before zeroed after (No r) e x =
-      let n : length zeroed ≡ length before = ap length e ∙ length-zeros before in
-      (subst (λ (m : ℕ). RefusedAs S T q m r) n (x .0), x .1 ∙ same-zeros zeroed before n)
+  lists-over before zeroed after r e x = lists-lent S T (ask.Good q) zeroed before after r (ap length e ∙ length-zeros before) x
 
 -- ---- no second answer and no second list meet the contract
 

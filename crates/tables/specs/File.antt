@@ -5,7 +5,7 @@ use mathlib.Core.Bool.{cond}
 use mathlib.Core.Option.{Option, none, some}
 use lib.ListN.{getD}
 use lib.Dec.{eqb}
-use Rattle.kinds.specs.Limits.{noPivot}
+use Rattle.kinds.specs.Limits.{mostStops, mostLabels, noPivot}
 use Rattle.kinds.specs.declared.Label.{Label}
 use Rattle.journeys.specs.Tables.{Side, outs, ins, Tables}
 use Rattle.tables.specs.Format.{headerBytes, entryBytes, labelBytes, noPivotByte}
@@ -44,6 +44,10 @@ labelsOf b = startOf b (2 * stopsOf b)
 -- where label k begins in a file of n stops; a file of n stops and k labels is so long
 abbrev pub placeOf : ℕ → ℕ → ℕ
 placeOf n k = headerBytes + entryBytes * n + labelBytes * k
+
+-- room for any file: that of the most stops and labels
+abbrev pub fileRoom : ℕ
+fileRoom = placeOf mostStops mostLabels
 
 -- "A label is six bytes: hub, departure (2), arrival (2), pivot (255 is none)."
 abbrev pub pivotRead : ℕ → ℕ

@@ -10,7 +10,7 @@ ghost use Rattle.loops.specs.Filled.{filled};
 ghost use Rattle.kinds.specs.Limits.{mostStops, mostLabels};
 ghost use Rattle.journeys.specs.Tables.{outs, ins};
 ghost use Rattle.tables.specs.Format.{headerBytes};
-ghost use Rattle.tables.specs.File.{twoAt, stopsOf, countOf, startOf, endOf, labelsOf, placeOf, pivotRead, labelAt, tablesOf, boundsOf};
+ghost use Rattle.tables.specs.File.{twoAt, stopsOf, countOf, startOf, endOf, labelsOf, placeOf, fileRoom, pivotRead, labelAt, tablesOf, boundsOf};
 ghost use Rattle.tables.specs.Judged.{follows, goodLabel, badInSet, firstBad, judgedContents, judgedTables};
 ghost use Rattle.tables.specs.Turns.{labelsRead, lastOf};
 ghost use Rattle.tables.specs.Write.{putTwo, putHeader, putCount, pivotByte, putLabel};
@@ -26,6 +26,9 @@ const ENTRY: usize = 4;
 const LABEL: usize = 6;
 
 const NO_PIVOT: u8 = 255;
+
+// Room for any file.
+pub const FILE_ROOM: usize = HEADER + ENTRY * Stop::MOST + LABEL * Label::MOST;
 
 // The labels judged one after the other: none is bad, or the first that is.
 enum LabelsRead {
@@ -75,6 +78,13 @@ pub fn file_length(n: u16, labels: usize) -> usize
     ensures { λ r. ⌜ r ≡ placeOf n labels ⌝ }
 {
     HEADER + ENTRY * (n as usize) + LABEL * labels
+}
+
+pub fn file_room() -> usize
+    ensures { λ r. do ⌜ r ≡ (← ⟦FILE_ROOM⟧ .entry) ⌝ }
+    ensures { λ r. ⌜ r ≡ fileRoom ⌝ }
+{
+    FILE_ROOM
 }
 
 // Label k.

@@ -520,3 +520,21 @@ pub fn programs() -> Vec<Program> {
     add("x".repeat(200_000), "no 8 0\n");
     all
 }
+
+/// The cases stored in `tests/vectors`, by name: NAME.in is the input, NAME.out
+/// what it prints, written by hand from document 01.
+pub fn stored_programs() -> Vec<(String, Program)> {
+    let folder = std::path::Path::new(env!("CARGO_MANIFEST_DIR")).join("../vectors");
+    let mut all = Vec::new();
+    for entry in std::fs::read_dir(&folder).expect("the folder tests/vectors") {
+        let path = entry.unwrap().path();
+        if path.extension().is_some_and(|e| e == "in") {
+            let name = path.file_stem().unwrap().to_string_lossy().into_owned();
+            let output = std::fs::read(path.with_extension("out")).expect("an output for each input");
+            all.push((name, Program { input: std::fs::read(&path).unwrap(), output }));
+        }
+    }
+    all.sort_by(|a, b| a.0.cmp(&b.0));
+    assert!(all.len() >= 25, "the cases are in tests/vectors");
+    all
+}

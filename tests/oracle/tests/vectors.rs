@@ -304,3 +304,11 @@ fn programs() {
     assert!(text.len() < 65_536);
     assert_eq!(journey::output(&text), b"no 22 0\n");
 }
+
+#[test]
+fn stored_programs() {
+    for (name, program) in vectors::stored_programs() {
+        let printed = journey::output(&program.input);
+        assert!(printed == program.output, "{name}: {:?}", String::from_utf8_lossy(&printed));
+    }
+}

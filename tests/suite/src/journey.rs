@@ -10,6 +10,13 @@ pub fn vectors<S: Program>() {
     }
 }
 
+/// The cases stored in `tests/vectors`.
+pub fn stored<S: Program>() {
+    for (_, program) in vectors::stored_programs() {
+        journey_expecting::<S>(&program.input, &program.output);
+    }
+}
+
 pub fn random_inputs<S: Program>() {
     each_seed("journey::random_inputs", 600, |rng| {
         let day = days::small(rng);

@@ -279,6 +279,7 @@ macro_rules! journey_tests {
             $subject,
             [
                 vectors,
+                stored,
                 random_inputs,
                 damaged_timetables,
                 cut_inputs,

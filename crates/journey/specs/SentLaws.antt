@@ -1,0 +1,22 @@
+-- From what is to be printed after the start to the output for the input.
+use Prim.Native.Nat.{ℕ}
+use mathlib.Core.Path.{_≡_, subst₂}
+use mathlib.Core.List.{List}
+use Rattle.kinds.specs.Limits.{runsRoom, codesRoom}
+use Rattle.tables.specs.File.{fileRoom}
+use Rattle.tables.specs.OneFile.{AreBytes}
+use Rattle.reader.specs.Text.{runsOf, codesOf}
+use Rattle.builder.specs.Build.{buildRoom}
+use Rattle.output.specs.declared.Stage.{Stage}
+use Rattle.output.specs.Output.{readInput, StartOf, Prints}
+use Rattle.output.specs.OutputLaws.{start-output}
+use Rattle.journey.specs.Sent.{SentFrom, SentFor}
+use Rattle.journey.specs.declared.Sent.{Sent}
+use Rattle.journey.specs.declared.Sent.the-variants.{All, Cut}
+
+pub sent-for : (t runs codes tables list : List ℕ) (s : Stage) (r : Sent) → StartOf t runsRoom codesRoom buildRoom fileRoom tables s → AreBytes tables →
+    runs ≡ runsOf (readInput t runsRoom codesRoom) runsRoom → codes ≡ codesOf (readInput t runsRoom codesRoom) codesRoom →
+    SentFrom t runs codes tables list s r → SentFor t r
+sent-for t runs codes tables list s (All n) S bytes er ec P =
+    (P .0, start-output t tables list s S bytes (P .0) (subst₂ (λ (i j : List ℕ). Prints t i j tables list s (P .0)) er ec (P .1)), P .2)
+sent-for t runs codes tables list s Cut S bytes er ec P = tt

@@ -1,0 +1,72 @@
+use mathlib.Core.Path.{sym, ap, _∙_}
+use native.Mathlib.Omega.{arith}
+use lib.Seq.{length-take-le}
+use Rattle.askline.specs.InputLaws.{line-within}
+use Rattle.output.specs.Steps.{line}
+use borrow.Author.Needs.{needs}
+use Rattle.output.proofs.line_step.Statement.{statement}
+use Rattle.output.proofs.line_step.Tie as tie
+use Rattle.output.proofs.line_step.Reads as reads
+use Rattle.output.proofs.line_step.Lts as lts
+use Rattle.answers.proofs.answer.Reads as answer-reads
+use Rattle.answers.proofs.head.Reads as head-reads
+use Rattle.answers.proofs.rides_in.Reads as rides-in-reads
+
+slice-aggregate-answer : tie.Need-slice-aggregate-answer
+slice-aggregate-answer c =
+    let s = c .before .before .before .before .before .before .before in
+    sym (length-take-le (s .args .z .text) (s .args .input .now) (s .pre .1 .0 .text-in))
+
+slice-aggregate-answer-2 : tie.Need-slice-aggregate-answer-2
+slice-aggregate-answer-2 c =
+    let s = c .before .before .before .before .before .before .before .before in
+    sym (length-take-le (s .args .z .tables) (s .args .tables .now) (s .pre .1 .0 .tables-in))
+
+slice-aggregate-answer-3 : tie.Need-slice-aggregate-answer-3
+slice-aggregate-answer-3 c = search needs
+
+answer-requires : tie.Need-answer-requires
+answer-requires c κs =
+    let s = c .before .before .before .before .before .before .before .before .before .before in
+    let w = line-within _ _ _ (s .pre .1 .1 .1) in
+    (s .pre .1 .0 .read .placed, (w .0, omega (arith, w .1)))
+
+head-requires : tie.Need-head-requires
+head-requires c κs = search needs
+
+rides-in-requires : tie.Need-rides-in-requires
+rides-in-requires c κs = search needs
+
+add-t26 : tie.Need-add-t26
+add-t26 c =
+    let s = c .before .before .before .before .before .before .before .before .before .before .before .before .before .before .before .before .before .before .before in
+    omega (arith, line-within _ _ _ (s .pre .1 .1 .1) .1)
+
+same-length : tie.Need-same-length
+same-length c = search needs
+
+same-length-2 : tie.Need-same-length-2
+same-length-2 c = search needs
+
+returns : tie.Need-returns
+returns c =
+    let h = c .before .before .before in
+    let a = h .before .before .before .before .before in
+    let s = c .before .before .before .before .before .before .before .before .before .before .before .before .before .before .before .before .before .before .before in
+    line (s .args .end) (a .answer .result) (s .pre .1 .1 .0) (s .pre .1 .1 .1) (a .answer .ensures .0)
+    (record { bytes = h .head .result; wrote = h .head .ensures .0; short = h .head .ensures .1; is = rw (c .rides-in .ensures) })
+
+pub line-step-spec : {M : Type 1} → statement M
+line-step-spec =
+    tie.close
+    (tie.spec
+    slice-aggregate-answer
+    slice-aggregate-answer-2
+    slice-aggregate-answer-3
+    answer-requires
+    head-requires
+    rides-in-requires
+    add-t26
+    same-length
+    same-length-2
+    returns)

@@ -1,0 +1,5 @@
+pub mod Output
+pub mod Steps
+pub mod InputLaws
+pub mod StepLaws
+pub mod OutputLaws

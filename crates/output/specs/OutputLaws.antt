@@ -1,0 +1,199 @@
+-- Laws of the output: the program's start leads to it, its steps print it line by line, and it is one.
+use Prim.Native.Nat.{ℕ, zero, suc, _+_, _*_, _≤_, _<_}
+use mathlib.Core.Path.{_≡_, refl, sym, ap, ap₂, subst, subst₂, _∙_}
+use mathlib.Core.List.{List, [], _∷_, _++_, append-assoc}
+use native.Mathlib.Omega.{arith}
+use lib.ListN.{length, take, replicate, length-append}
+use lib.Seq.{length-take-le}
+use Rattle.kinds.specs.Limits.{runsRoom, codesRoom, lastMinute}
+use Rattle.kinds.specs.declared.Refusal.{Refusal}
+use Rattle.tables.specs.File.{fileRoom}
+use Rattle.tables.specs.OneFile.{AreBytes}
+use Rattle.reader.specs.declared.Counts.{Counts}
+use Rattle.reader.specs.declared.ReadAnswer.the-variants as read
+use Rattle.reader.specs.Text.{answerOf, runsOf, codesOf}
+use Rattle.reader.specs.TextLaws.{GoodRead}
+use Rattle.builder.specs.declared.BuildAnswer.{BuildAnswer}
+use Rattle.builder.specs.declared.BuildAnswer.the-variants as build
+use Rattle.builder.specs.Build.{buildRoom, BuildOf}
+use Rattle.builder.specs.BuildLaws.{built-within, build-one}
+use Rattle.askline.specs.declared.Piece.the-variants as piece
+use Rattle.askline.specs.Input.{timetableEnd, pieceAt}
+use Rattle.askline.specs.InputLaws.{timetable-within}
+use Rattle.printed.specs.Printed.{lineRoom}
+use Rattle.answers.specs.Answers.{rideLines}
+use Rattle.answers.specs.AnswersLaws.{printed-one}
+use Rattle.output.specs.Output.{readInput, StartOf, unread, unbuilt, built, Held, heldOf, LinePrints, LinesPrint, none, unfinished, line, TurnPrints, Prints, OutputOf}
+use Rattle.output.specs.InputLaws.{read-held, input-good}
+use Rattle.output.specs.Steps.{StepOf, Ready, Stands}
+use Rattle.output.specs.StepLaws.{left, mostLines, left-most, few-bytes, step-stands, step-less, step-prints, step-over}
+use Rattle.output.specs.declared.Sizes.{Sizes}
+use Rattle.output.specs.declared.Turn.{Turn}
+use Rattle.output.specs.declared.Stage.{Stage}
+use Rattle.output.specs.declared.Stage.the-variants.{Refused, Asks, Over}
+use Rattle.output.specs.declared.Step.{Step}
+use Rattle.output.specs.declared.Step.the-variants.{Printed, Nothing}
+
+-- ---- from the start to the steps
+
+module _ (t : List ℕ) (roomR roomC : ℕ) {work lent : ℕ} (runs codes tables : List ℕ) (s : Stage) (S : StartOf t roomR roomC work lent tables s)
+    (er : runs ≡ runsOf (readInput t roomR roomC) roomR) (ec : codes ≡ codesOf (readInput t roomR roomC) roomC) where
+  -- a step can be made after the start
+  pub start-stands : runsRoom ≤ roomR → lent ≡ length tables → (list : List ℕ) → length list ≡ lastMinute → Stands t runs codes tables list s
+  start-stands room lt list ll = go S
+    where
+      go : StartOf t roomR roomC work lent tables s → Stands t runs codes tables list s
+      go (unread r e f z) = subst (Stands t runs codes tables list) (sym f) tt
+      go (unbuilt k r e b f) = subst (Stands t runs codes tables list) (sym f) tt
+      go (built k n labels e b f) =
+          let g : GoodRead (take (timetableEnd t) t) roomR roomC (k .stops) (k .runs) runs codes = rw (er, ec) (input-good t roomR roomC k e) in
+          subst (Stands t runs codes tables list) (sym f)
+          (record {
+            short = read-held t roomR roomC k e;
+            text-in = timetable-within t;
+            tables-in = omega (arith, built-within b);
+            roomy = omega (arith, g .numbers-long);
+            read = subst₂ (λ (i j : ℕ). GoodRead (take (timetableEnd t) t) i j (k .stops) (k .runs) runs codes) (sym (g .numbers-long)) (sym (g .codes-long)) g;
+            listed = ll;
+            due = omega arith;
+            ridden = λ i h. absurd (omega arith);
+          })
+
+-- at the first turn no rides are listed: nothing of the list is printed
+first-turn : {h : Held} {t list other : List ℕ} {a : ℕ} {xs : List ℕ} → TurnPrints h t list (record { at = a; ride = 0; rides = 0 }) xs →
+    TurnPrints h t other (record { at = a; ride = 0; rides = 0 }) xs
+unfolding rideLines
+first-turn P = record { left = P .left; rides = P .rides; rest = P .rest; lines = P .lines; is = P .is }
+
+-- what is to be printed after the start is the output
+module _ (t tables list : List ℕ) (s : Stage) (S : StartOf t runsRoom codesRoom buildRoom fileRoom tables s) (bytes : AreBytes tables) (xs : List ℕ) where
+  pub start-output : Prints t (runsOf (readInput t runsRoom codesRoom) runsRoom) (codesOf (readInput t runsRoom codesRoom) codesRoom) tables list s xs → OutputOf t xs
+  start-output P = record { tables = tables; bytes = bytes; stage = s; starts = S; prints = go S P }
+    where
+      go : StartOf t runsRoom codesRoom buildRoom fileRoom tables s →
+          Prints t (runsOf (readInput t runsRoom codesRoom) runsRoom) (codesOf (readInput t runsRoom codesRoom) codesRoom) tables list s xs →
+          Prints t (runsOf (readInput t runsRoom codesRoom) runsRoom) (codesOf (readInput t runsRoom codesRoom) codesRoom) tables (replicate lastMinute 0) s xs
+      go (unread r e f z) Q = rw f (rw f at Q)
+      go (unbuilt k r e b f) Q = rw f (rw f at Q)
+      go (built k n labels e b f) Q = rw f (first-turn (rw f at Q))
+
+-- ---- the steps, one after the other
+
+-- From the stage `first` on, with `before` in the list, lines of so many bytes were written; now the stage is s, and the list is `list`.
+pub record Along (t runs codes tables before : List ℕ) (first : Stage) (list : List ℕ) (s : Stage) (total : ℕ) : Type 0 where
+  pub stands : Stands t runs codes tables list s
+  pub done : List ℕ
+  pub count : total ≡ length done
+  pub rest : (ys : List ℕ) → Prints t runs codes tables list s ys → Prints t runs codes tables before first (done ++ ys)
+  -- what is left cannot make the number of bytes too large
+  pub bound : total + lineRoom * left (length t) s ≤ lineRoom * mostLines
+
+pub along-none : (t runs codes tables list : List ℕ) (s : Stage) → Stands t runs codes tables list s → Along t runs codes tables list s list s 0
+along-none t runs codes tables list s R =
+    record { stands = R; done = []; count = refl; rest = λ ys P. P; bound = omega (arith, left-most t runs codes tables list s R) }
+
+module _ (t runs codes tables before list out list′ out′ : List ℕ) (first s : Stage) {total : ℕ} (D : Along t runs codes tables before first list s total) {x : Step}
+    (S : StepOf t runs codes tables s list out list′ out′ x) where
+  module _ (n : ℕ) (s′ : Stage) (e : x ≡ Printed n s′) where
+    -- the line is within the buffer
+    pub along-bytes : n ≤ lineRoom
+    along-bytes = few-bytes t runs codes tables s list out list′ out′ S n s′ e
+
+    pub along-less : length list′ ≡ length list → left (length t) s′ < left (length t) s
+    along-less same = step-less t runs codes tables list out list′ out′ s (D .stands) S same n s′ e
+
+    -- the number of bytes stays small
+    pub along-total : length list′ ≡ length list → total + n + lineRoom * left (length t) s′ ≤ lineRoom * mostLines
+    along-total same =
+        omega (arith, D .bound, along-bytes, along-less same)
+
+    pub along-more : length list′ ≡ length list → lineRoom ≤ length out → length out′ ≡ length out → Along t runs codes tables before first list′ s′ (total + n)
+    along-more same room as-long =
+        let few = along-bytes in
+        record {
+          stands = step-stands t runs codes tables list out list′ out′ s (D .stands) S same n s′ e;
+          done = D .done ++ take n out′;
+          count = rw length-append (ap₂ (λ (i j : ℕ). i + j) (D .count) (sym (length-take-le n out′ (omega arith))));
+          rest = λ ys P. subst (Prints t runs codes tables before first) (sym (append-assoc (D .done) (take n out′) ys))
+              (D .rest (take n out′ ++ ys) (step-prints t runs codes tables list out list′ out′ s (D .stands) S room n s′ e ys P));
+          bound = along-total same;
+        }
+
+  -- all that is to be printed was written
+  pub along-all : x ≡ Nothing → (xs : List ℕ) × Prints t runs codes tables before first xs × (total ≡ length xs)
+  along-all e =
+      (D .done ++ [], D .rest [] (step-over t runs codes tables list out list′ out′ s (D .stands) S e), rw length-append (omega (arith, D .count)))
+
+-- ---- the output is one
+
+append-one : (l : List ℕ) {xs ys : List ℕ} → l ++ xs ≡ l ++ ys → xs ≡ ys
+append-one [] e = e
+append-one (x ∷ l) e = append-one l cc
+
+pub lines-one : {h : Held} {t : List ℕ} {a : ℕ} {xs ys : List ℕ} → LinesPrint h t a xs → LinesPrint h t a ys → xs ≡ ys
+lines-one (none p q) (none p′ q′) = q ∙ sym q′
+lines-one (none p q) (unfinished p′ q′) = let y : _≡_ {A = ℕ} 0 1 = let g = sym p ∙ p′ in cc in absurd (omega arith)
+lines-one (none p q) (line e l m p′ f r q′) = let y : _≡_ {A = ℕ} 0 1 = let g = sym p ∙ p′ in cc in absurd (omega arith)
+lines-one (unfinished p q) (none p′ q′) = let y : _≡_ {A = ℕ} 0 1 = let g = sym p ∙ p′ in cc in absurd (omega arith)
+lines-one (unfinished p q) (unfinished p′ q′) = q ∙ sym q′
+lines-one (unfinished p q) (line e l m p′ f r q′) = let y : _≡_ {A = ℕ} 0 1 = let g = sym p ∙ p′ in cc in absurd (omega arith)
+lines-one (line e l m p f r q) (none p′ q′) = let y : _≡_ {A = ℕ} 0 1 = let g = sym p ∙ p′ in cc in absurd (omega arith)
+lines-one (line e l m p f r q) (unfinished p′ q′) = let y : _≡_ {A = ℕ} 0 1 = let g = sym p ∙ p′ in cc in absurd (omega arith)
+lines-one {h} {t} {a} (line e l m p f r q) (line e′ l′ m′ p′ f′ r′ q′) =
+    let g = sym p′ ∙ p in
+    let i : e′ ≡ e = cc in
+    q ∙ ap₂ (λ (x y : List ℕ). x ++ y) (printed-one f (subst (λ (j : ℕ). LinePrints h t a j l′) i f′)) (lines-one r (subst (λ (j : ℕ). LinesPrint h t (j + 1) m′) i r′)) ∙ sym q′
+
+turn-one : {h : Held} {t list : List ℕ} {p : Turn} {xs ys : List ℕ} → TurnPrints h t list p xs → TurnPrints h t list p ys → xs ≡ ys
+turn-one {h} {t} {list} {p} P Q =
+    P .is ∙ ap₂ (λ (x y : List ℕ). x ++ y) (append-one (rideLines (h .text) (h .codes) (h .runs) list (p .ride)) (sym (P .rides) ∙ Q .rides)) (lines-one (P .lines) (Q .lines)) ∙ sym (Q .is)
+
+pub prints-one : (t runs codes tables list : List ℕ) (s : Stage) (xs ys : List ℕ) → Prints t runs codes tables list s xs → Prints t runs codes tables list s ys → xs ≡ ys
+prints-one t runs codes tables list (Refused r) xs ys P Q = P ∙ sym Q
+prints-one t runs codes tables list (Asks z p) xs ys P Q = turn-one P Q
+prints-one t runs codes tables list Over xs ys P Q = P ∙ sym Q
+
+same-build : {k c : Counts} → k ≡ c → {runs : List ℕ} {work lent : ℕ} {y : BuildAnswer} {tables : List ℕ} → BuildOf (k .stops) (k .runs) runs work lent y tables →
+    BuildOf (c .stops) (c .runs) runs work lent y tables
+same-build e {runs} {work} {lent} {y} {tables} b = subst (λ (i : Counts). BuildOf (i .stops) (i .runs) runs work lent y tables) e b
+
+-- no second stage and no second tables meet the contract of the start
+module _ {t : List ℕ} {roomR roomC work lent : ℕ} {tables other : List ℕ} {s r : Stage} where
+  pub start-one : AreBytes tables → AreBytes other → StartOf t roomR roomC work lent tables s → StartOf t roomR roomC work lent other r → (s ≡ r) × (tables ≡ other)
+  start-one x y (unread q e f z) (unread q′ e′ f′ z′) = let g = sym e ∙ e′ in let i : q ≡ q′ = cc in (f ∙ ap Refused i ∙ sym f′, z ∙ sym z′)
+  start-one x y (unread q e f z) (unbuilt k q′ e′ b f′) = let w : _≡_ {A = ℕ} 0 1 = let g = sym e ∙ e′ in cc in absurd (omega arith)
+  start-one x y (unread q e f z) (built k n l e′ b f′) = let w : _≡_ {A = ℕ} 0 1 = let g = sym e ∙ e′ in cc in absurd (omega arith)
+  start-one x y (unbuilt k q e b f) (unread q′ e′ f′ z′) = let w : _≡_ {A = ℕ} 0 1 = let g = sym e ∙ e′ in cc in absurd (omega arith)
+  start-one x y (unbuilt k q e b f) (unbuilt k′ q′ e′ b′ f′) =
+      let g = sym e′ ∙ e in
+      let i : k′ ≡ k = cc in
+      let o = build-one x y b (same-build i b′) in
+      let h = o .0 in
+      let j : q ≡ q′ = cc in
+      (f ∙ ap Refused j ∙ sym f′, o .1)
+  start-one x y (unbuilt k q e b f) (built k′ n l e′ b′ f′) =
+      let g = sym e′ ∙ e in
+      let i : k′ ≡ k = cc in
+      let w : _≡_ {A = ℕ} 0 1 = let h = build-one x y b (same-build i b′) .0 in cc in
+      absurd (omega arith)
+  start-one x y (built k n l e b f) (unread q′ e′ f′ z′) = let w : _≡_ {A = ℕ} 0 1 = let g = sym e ∙ e′ in cc in absurd (omega arith)
+  start-one x y (built k n l e b f) (unbuilt k′ q′ e′ b′ f′) =
+      let g = sym e′ ∙ e in
+      let i : k′ ≡ k = cc in
+      let w : _≡_ {A = ℕ} 0 1 = let h = build-one x y b (same-build i b′) .0 in cc in
+      absurd (omega arith)
+  start-one x y (built k n l e b f) (built k′ n′ l′ e′ b′ f′) =
+      let g = sym e′ ∙ e in
+      let i : k′ ≡ k = cc in
+      let o = build-one x y b (same-build i b′) in
+      let h = o .0 in
+      let j : n ≡ n′ = cc in
+      (f ∙ ap₂ (λ (c : Counts) (m : ℕ). Asks (record { stops = c .stops; runs = c .runs; text = timetableEnd t; tables = m }) (record { at = timetableEnd t; ride = 0; rides = 0 })) (sym i) j ∙ sym f′, o .1)
+
+-- no second output is one
+pub output-one : {t xs ys : List ℕ} → OutputOf t xs → OutputOf t ys → xs ≡ ys
+output-one {t} {xs} {ys} O P =
+    let e = start-one (O .bytes) (P .bytes) (O .starts) (P .starts) in
+    prints-one t (runsOf (readInput t runsRoom codesRoom) runsRoom) (codesOf (readInput t runsRoom codesRoom) codesRoom) (O .tables) (replicate lastMinute 0) (O .stage) xs ys (O .prints)
+    (subst₂ (λ (b : List ℕ) (s : Stage). Prints t (runsOf (readInput t runsRoom codesRoom) runsRoom) (codesOf (readInput t runsRoom codesRoom) codesRoom) b (replicate lastMinute 0) s ys)
+    (sym (e .1)) (sym (e .0)) (P .prints))

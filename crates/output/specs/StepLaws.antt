@@ -1,0 +1,251 @@
+-- Laws of a step: where the next one may be made, what is left after it, and that line by line the steps print what is said in Output.antt.
+use Prim.Native.Nat.{ℕ, zero, suc, _+_, _*_, _-_, _≤_, _<_}
+use mathlib.Core.Path.{_≡_, refl, sym, ap, subst, subst₂, _∙_}
+use mathlib.Core.List.{List, [], _∷_, _++_, append-assoc, append-nil}
+use native.Mathlib.Omega.{arith}
+use native.Mathlib.Decide.{ℕ-discrete, decLt}
+use lib.ListN.{length, take, getD, replicate, length-replicate, length-append}
+use Rattle.kinds.specs.Limits.{mostInput, runsRoom, codesRoom, lastMinute}
+use Rattle.timetable.specs.Numbers.{runAt}
+use Rattle.rides.specs.declared.RidesAnswer.{RidesAnswer}
+use Rattle.rides.specs.Lists.{ridesRoom}
+use Rattle.askline.specs.declared.Piece.the-variants as piece
+use Rattle.askline.specs.AskLine.{askLine}
+use Rattle.askline.specs.Input.{pieceAt}
+use Rattle.askline.specs.InputLaws.{line-within}
+use Rattle.printed.specs.Printed.{lineRoom}
+use Rattle.printed.specs.WroteLaws.{wrote-first, wrote-one}
+use Rattle.answers.specs.Answers.{LineGets, headOf, ridesIn, runLine, rideLines, printedFor}
+use Rattle.answers.specs.AnswersLaws.{gets-one, gets-lent, Ridden, ridden-all}
+use Rattle.output.specs.Output.{Held, heldOf, LinesPrint, none, unfinished, line, TurnPrints, Prints, refusedLine}
+use Rattle.output.specs.Steps as step
+use Rattle.output.specs.Steps.{Writes, TurnStep, StepOf, Ready, Stands}
+use Rattle.output.specs.declared.Sizes.{Sizes}
+use Rattle.output.specs.declared.Turn.{Turn}
+use Rattle.output.specs.declared.Stage.{Stage}
+use Rattle.output.specs.declared.Stage.the-variants.{Refused, Asks, Over}
+use Rattle.output.specs.declared.Step.{Step}
+use Rattle.output.specs.declared.Step.the-variants.{Printed, Nothing}
+
+-- two steps that are one have one number of bytes, and one stage follows
+same-bytes : {n m : ℕ} {s r : Stage} → Printed n s ≡ Printed m r → (n ≡ m) × (s ≡ r)
+same-bytes e = (cc, cc)
+
+module _ {t runs codes tables list : List ℕ} {z : Sizes} {p : Turn} (R : Ready t runs codes tables list z p) where
+  -- no more rides are listed than there is room for
+  pub few-rides : p .rides ≤ lastMinute
+  few-rides = go (p .rides) (R .ridden)
+    where
+      go : (n : ℕ) → ((k : ℕ) → k < n → Ridden (take (z .text) t) codes runs list k) → n ≤ lastMinute
+      go zero f = omega arith
+      go (suc n) f = omega (arith, f n (omega arith) .within, R .listed)
+
+  module _ {out list′ out′ : List ℕ} {x : Step} (same : length list′ ≡ length list) {n : ℕ} {s : Stage} (e : x ≡ Printed n s) where
+    turn-stands : TurnStep (heldOf t runs codes tables z) t z p list out list′ out′ x → Stands t runs codes tables list′ s
+    turn-stands (step.ride lt l w) =
+        subst (Stands t runs codes tables list′) (same-bytes (sym (w .is) ∙ e) .1)
+        (record {
+          short = R .short;
+          text-in = R .text-in;
+          tables-in = R .tables-in;
+          roomy = R .roomy;
+          read = R .read;
+          listed = same ∙ R .listed;
+          due = omega arith;
+          ridden = rw l (R .ridden);
+        })
+    turn-stands (step.line i y le at g w) =
+        subst (Stands t runs codes tables list′) (same-bytes (sym (w .is) ∙ e) .1)
+        (record {
+          short = R .short;
+          text-in = R .text-in;
+          tables-in = R .tables-in;
+          roomy = R .roomy;
+          read = R .read;
+          listed = same ∙ R .listed;
+          due = omega arith;
+          ridden = ridden-all (R .read) (R .roomy) (take (z .tables) tables) ridesRoom (askLine (take (z .text) t) codes (z .stops) t (p .at) i) list list′ y g;
+        })
+    turn-stands (step.unfinished le at l w) = subst (Stands t runs codes tables list′) (same-bytes (sym (w .is) ∙ e) .1) tt
+    turn-stands (step.none le at l o f) = let y : _≡_ {A = ℕ} 0 1 = let g = sym e ∙ f in cc in absurd (omega arith)
+
+-- how many lines are left at most, where the input has `long` bytes: a number that falls at each step
+abbrev pub left : ℕ → Stage → ℕ
+left long (Refused r) = 1
+left long (Asks z p) = 1 + (suc lastMinute * (long - p .at) + (p .rides - p .ride))
+left long Over = 0
+
+abbrev pub mostLines : ℕ
+mostLines = 1 + (suc lastMinute * mostInput + lastMinute)
+
+module _ (t runs codes tables list : List ℕ) where
+  -- so many lines are left at most at any stage
+  pub left-most : (s : Stage) → Stands t runs codes tables list s → left (length t) s ≤ mostLines
+  left-most (Refused r) R = omega arith
+  left-most (Asks z p) R = omega (arith, few-rides R, R .short)
+  left-most Over R = omega arith
+
+  module _ (out list′ out′ : List ℕ) {x : Step} where
+    -- a step can follow the step
+    pub step-stands : (s : Stage) → Stands t runs codes tables list s → StepOf t runs codes tables s list out list′ out′ x → length list′ ≡ length list →
+        (n : ℕ) (s′ : Stage) → x ≡ Printed n s′ → Stands t runs codes tables list′ s′
+    step-stands (Refused r) R S same n s′ e = subst (Stands t runs codes tables list′) (same-bytes (sym (S .0 .is) ∙ e) .1) tt
+    step-stands (Asks z p) R S same n s′ e = turn-stands R same e S
+    step-stands Over R S same n s′ e = let y : _≡_ {A = ℕ} 0 1 = let g = sym e ∙ S .0 in cc in absurd (omega arith)
+
+    -- and fewer lines are left
+    pub step-less : (s : Stage) → Stands t runs codes tables list s → StepOf t runs codes tables s list out list′ out′ x → length list′ ≡ length list →
+        (n : ℕ) (s′ : Stage) → x ≡ Printed n s′ → left (length t) s′ < left (length t) s
+    step-less (Refused r) R S same n s′ e = subst (λ i. left (length t) i < 1) (same-bytes (sym (S .0 .is) ∙ e) .1) (omega arith)
+    step-less (Asks z p) R (step.ride lt l w) same n s′ e =
+        subst (λ i. left (length t) i < left (length t) (Asks z p)) (same-bytes (sym (w .is) ∙ e) .1) (omega arith)
+    step-less (Asks z p) R (step.line i y le at g w) same n s′ e =
+        let h = line-within t (p .at) i at in
+        let few = few-rides (turn-stands R same (w .is) (step.line i y le at g w)) in
+        subst (λ i. left (length t) i < left (length t) (Asks z p)) (same-bytes (sym (w .is) ∙ e) .1) (omega (arith, h .0, h .1, few))
+    step-less (Asks z p) R (step.unfinished le at l w) same n s′ e =
+        subst (λ i. left (length t) i < left (length t) (Asks z p)) (same-bytes (sym (w .is) ∙ e) .1) (omega arith)
+    step-less (Asks z p) R (step.none le at l o f) same n s′ e = let y : _≡_ {A = ℕ} 0 1 = let g = sym e ∙ f in cc in absurd (omega arith)
+    step-less Over R S same n s′ e = let y : _≡_ {A = ℕ} 0 1 = let g = sym e ∙ S .0 in cc in absurd (omega arith)
+
+-- ---- line by line, the steps print what is said
+
+-- the buffer's first bytes are the line
+pub first-bytes : {out xs out′ : List ℕ} {s : Stage} {x : Step} → Writes out xs s out′ x → lineRoom ≤ length out → (n : ℕ) (s′ : Stage) → x ≡ Printed n s′ → take n out′ ≡ xs
+first-bytes {xs = xs} {out′ = out′} w h n s′ e =
+    let b = same-bytes (sym (w .is) ∙ e) .0 in
+    ap (λ (m : ℕ). take m out′) (sym b) ∙ wrote-first (w .wrote) (omega (arith, w .wrote .end, w .short))
+
+module _ {t runs codes tables list : List ℕ} {z : Sizes} {p : Turn} (R : Ready t runs codes tables list z p) where
+  abbrev H : Held
+  H = heldOf t runs codes tables z
+
+  -- the turn's rides are all printed
+  lines-only : p .rides ≤ p .ride → {xs : List ℕ} → LinesPrint H t (p .at) xs → TurnPrints H t list p xs
+  lines-only le {xs} l =
+      let e : p .rides ≡ p .ride = omega (arith, R .due) in
+      record {
+        left = [];
+        rides = ap (rideLines (H .text) codes runs list) e ∙ sym (append-nil _);
+        rest = xs;
+        lines = l;
+        is = refl;
+      }
+
+  -- the line of a ride, and then what follows it
+  ride-more : {list′ : List ℕ} → list′ ≡ list → {ys : List ℕ} → TurnPrints H t list′ (record { at = p .at; ride = p .ride + 1; rides = p .rides }) ys →
+      TurnPrints H t list p (runLine (H .text) codes (runAt runs (getD list (p .ride) 0)) ++ ys)
+  unfolding rideLines
+  ride-more l {ys} P =
+      let Q : TurnPrints H t list (record { at = p .at; ride = p .ride + 1; rides = p .rides }) ys =
+      subst (λ (m : List ℕ). TurnPrints H t m (record { at = p .at; ride = p .ride + 1; rides = p .rides }) ys) l P in
+      let xs : List ℕ = runLine (H .text) codes (runAt runs (getD list (p .ride) 0)) in
+      let e : p .ride + 1 ≡ suc (p .ride) = omega arith in
+      record {
+        left = xs ++ Q .left;
+        rides = Q .rides ∙ ap (λ (k : ℕ). rideLines (H .text) codes runs list k ++ Q .left) e ∙ append-assoc (rideLines (H .text) codes runs list (p .ride)) xs (Q .left);
+        rest = Q .rest;
+        lines = Q .lines;
+        is = ap (λ (l : List ℕ). xs ++ l) (Q .is) ∙ sym (append-assoc xs (Q .left) (Q .rest));
+      }
+
+  -- the first line of an answer, and then what follows it
+  line-more : {list′ : List ℕ} (i : ℕ) (y : RidesAnswer) → p .rides ≤ p .ride → pieceAt t (p .at) ≡ piece.Line i →
+      LineGets (H .tables) (H .stops) (H .count) (H .runs) ridesRoom (askLine (H .text) (H .codes) (H .stops) t (p .at) i) list list′ y →
+      {ys : List ℕ} → TurnPrints H t list′ (record { at = i + 1; ride = 0; rides = ridesIn y }) ys → TurnPrints H t list p (headOf y ++ ys)
+  unfolding rideLines printedFor
+  line-more {list′} i y le at g Q =
+      lines-only le
+      (line i (headOf y ++ Q .left) (Q .rest) at
+      (record {
+        answer = y;
+        list = list′;
+        gets = gets-lent (H .tables) (H .stops) (H .count) (H .runs) ridesRoom (askLine (H .text) (H .codes) (H .stops) t (p .at) i) list (replicate lastMinute 0) list′ y
+            (R .listed ∙ sym (length-replicate {A = ℕ} lastMinute 0)) g;
+        is = ap (λ (l : List ℕ). headOf y ++ l) (sym (Q .rides));
+      })
+      (Q .lines) (ap (λ (l : List ℕ). headOf y ++ l) (Q .is) ∙ sym (append-assoc (headOf y) (Q .left) (Q .rest))))
+
+  module _ {out list′ out′ : List ℕ} {x : Step} (room : lineRoom ≤ length out) {n : ℕ} {s : Stage} (e : x ≡ Printed n s) where
+    turn-prints : TurnStep H t z p list out list′ out′ x → (ys : List ℕ) → Prints t runs codes tables list′ s ys → TurnPrints H t list p (take n out′ ++ ys)
+    turn-prints (step.ride lt l w) ys P =
+        let Q = subst (λ i. Prints t runs codes tables list′ i ys) (sym (same-bytes (sym (w .is) ∙ e) .1)) P in
+        subst (λ (xs : List ℕ). TurnPrints H t list p (xs ++ ys)) (sym (first-bytes w room n s e)) (ride-more l Q)
+    turn-prints (step.line i y le at g w) ys P =
+        let Q = subst (λ i. Prints t runs codes tables list′ i ys) (sym (same-bytes (sym (w .is) ∙ e) .1)) P in
+        subst (λ (xs : List ℕ). TurnPrints H t list p (xs ++ ys)) (sym (first-bytes w room n s e)) (line-more i y le at g Q)
+    turn-prints (step.unfinished le at l w) ys P =
+        let Q : ys ≡ [] = subst (λ i. Prints t runs codes tables list′ i ys) (sym (same-bytes (sym (w .is) ∙ e) .1)) P in
+        let b = first-bytes w room n s e in
+        lines-only le (unfinished at (ap (λ (l : List ℕ). take n out′ ++ l) Q ∙ append-nil (take n out′) ∙ b))
+    turn-prints (step.none le at l o f) ys P = let y : _≡_ {A = ℕ} 0 1 = let g = sym e ∙ f in cc in absurd (omega arith)
+
+  turn-over : {out list′ out′ : List ℕ} {x : Step} → x ≡ Nothing → TurnStep H t z p list out list′ out′ x → TurnPrints H t list p []
+  turn-over e (step.ride lt l w) = let y : _≡_ {A = ℕ} 0 1 = let g = sym e ∙ w .is in cc in absurd (omega arith)
+  turn-over e (step.line i y le at g w) = let y : _≡_ {A = ℕ} 0 1 = let g = sym e ∙ w .is in cc in absurd (omega arith)
+  turn-over e (step.unfinished le at l w) = let y : _≡_ {A = ℕ} 0 1 = let g = sym e ∙ w .is in cc in absurd (omega arith)
+  turn-over e (step.none le at l o f) = lines-only le (none at refl)
+
+module _ (t runs codes tables list out list′ out′ : List ℕ) {x : Step} where
+  -- what is to be printed at a stage is the line that the step wrote, and then what is to be printed after it
+  pub step-prints : (s : Stage) → Stands t runs codes tables list s → StepOf t runs codes tables s list out list′ out′ x → lineRoom ≤ length out →
+      (n : ℕ) (s′ : Stage) → x ≡ Printed n s′ → (ys : List ℕ) → Prints t runs codes tables list′ s′ ys → Prints t runs codes tables list s (take n out′ ++ ys)
+  step-prints (Refused r) R S room n s′ e ys P =
+      let Q : ys ≡ [] = subst (λ i. Prints t runs codes tables list′ i ys) (sym (same-bytes (sym (S .0 .is) ∙ e) .1)) P in
+      ap (λ (l : List ℕ). take n out′ ++ l) Q ∙ append-nil (take n out′) ∙ first-bytes (S .0) room n s′ e
+  step-prints (Asks z p) R S room n s′ e ys P = turn-prints R room e S ys P
+  step-prints Over R S room n s′ e ys P = let y : _≡_ {A = ℕ} 0 1 = let g = sym e ∙ S .0 in cc in absurd (omega arith)
+
+  -- and nothing where the step wrote no line
+  pub step-over : (s : Stage) → Stands t runs codes tables list s → StepOf t runs codes tables s list out list′ out′ x → x ≡ Nothing → Prints t runs codes tables list s []
+  step-over (Refused r) R S e = let y : _≡_ {A = ℕ} 0 1 = let g = sym e ∙ S .0 .is in cc in absurd (omega arith)
+  step-over (Asks z p) R S e = turn-over R e S
+  step-over Over R S e = refl
+
+-- a line is no longer than the room for a line
+pub few-bytes : (t runs codes tables : List ℕ) (s : Stage) (list out list′ out′ : List ℕ) {x : Step} → StepOf t runs codes tables s list out list′ out′ x →
+    (n : ℕ) (s′ : Stage) → x ≡ Printed n s′ → n ≤ lineRoom
+few-bytes t runs codes tables (Refused r) list out list′ out′ S n s′ e = omega (arith, S .0 .short, same-bytes (sym (S .0 .is) ∙ e) .0)
+few-bytes t runs codes tables (Asks z p) list out list′ out′ (step.ride lt l w) n s′ e = omega (arith, w .short, same-bytes (sym (w .is) ∙ e) .0)
+few-bytes t runs codes tables (Asks z p) list out list′ out′ (step.line i y le at g w) n s′ e = omega (arith, w .short, same-bytes (sym (w .is) ∙ e) .0)
+few-bytes t runs codes tables (Asks z p) list out list′ out′ (step.unfinished le at l w) n s′ e = omega (arith, w .short, same-bytes (sym (w .is) ∙ e) .0)
+few-bytes t runs codes tables (Asks z p) list out list′ out′ (step.none le at l o f) n s′ e = let y : _≡_ {A = ℕ} 0 1 = let g = sym e ∙ f in cc in absurd (omega arith)
+few-bytes t runs codes tables Over list out list′ out′ S n s′ e = let y : _≡_ {A = ℕ} 0 1 = let g = sym e ∙ S .0 in cc in absurd (omega arith)
+
+-- ---- no second step, no second list and no second bytes meet the contract
+
+writes-one : {out xs o o′ : List ℕ} {s : Stage} {x y : Step} → Writes out xs s o x → Writes out xs s o′ y → (x ≡ y) × (o ≡ o′)
+writes-one {s = s} w v = let e = wrote-one (w .wrote) (v .wrote) in (w .is ∙ ap (λ (n : ℕ). Printed n s) (e .1) ∙ sym (v .is), e .0)
+
+turn-same : {h : Held} {t : List ℕ} {z : Sizes} {p : Turn} {list out l m o n : List ℕ} {x y : Step} → TurnStep h t z p list out l o x → TurnStep h t z p list out m n y →
+    (x ≡ y) × (l ≡ m) × (o ≡ n)
+turn-same (step.ride lt l w) (step.ride lt′ l′ w′) = let e = writes-one w w′ in (e .0, l ∙ sym l′, e .1)
+turn-same (step.ride lt l w) (step.line i′ q′ le′ at′ g′ w′) = absurd (omega arith)
+turn-same (step.ride lt l w) (step.unfinished le′ at′ l′ w′) = absurd (omega arith)
+turn-same (step.ride lt l w) (step.none le′ at′ l′ o′ f′) = absurd (omega arith)
+turn-same (step.line i q le at g w) (step.ride lt′ l′ w′) = absurd (omega arith)
+turn-same {h} {t} {z} {p} {list} {out} {l} {m} {o} {n} {x} {y} (step.line i q le at g w) (step.line i′ q′ le′ at′ g′ w′) =
+    let j = sym at′ ∙ at in
+    let e : i′ ≡ i = cc in
+    let read = askLine (h .text) (h .codes) (h .stops) t (p .at) i in
+    let b = gets-one (h .tables) (h .stops) (h .count) (h .runs) ridesRoom read list l m q q′ g
+    (subst (λ (k : ℕ). LineGets (h .tables) (h .stops) (h .count) (h .runs) ridesRoom (askLine (h .text) (h .codes) (h .stops) t (p .at) k) list m q′) e g′) in
+    let v = writes-one w
+    (subst₂ (λ (k : ℕ) (a : RidesAnswer). Writes out (headOf a) (Asks z (record { at = k + 1; ride = 0; rides = ridesIn a })) n y) e (sym (b .0)) w′) in
+    (v .0, b .1, v .1)
+turn-same (step.line i q le at g w) (step.unfinished le′ at′ l′ w′) = let k : _≡_ {A = ℕ} 0 1 = let j = sym at ∙ at′ in cc in absurd (omega arith)
+turn-same (step.line i q le at g w) (step.none le′ at′ l′ o′ f′) = let k : _≡_ {A = ℕ} 0 1 = let j = sym at ∙ at′ in cc in absurd (omega arith)
+turn-same (step.unfinished le at l w) (step.ride lt′ l′ w′) = absurd (omega arith)
+turn-same (step.unfinished le at l w) (step.line i′ q′ le′ at′ g′ w′) = let k : _≡_ {A = ℕ} 0 1 = let j = sym at ∙ at′ in cc in absurd (omega arith)
+turn-same (step.unfinished le at l w) (step.unfinished le′ at′ l′ w′) = let e = writes-one w w′ in (e .0, l ∙ sym l′, e .1)
+turn-same (step.unfinished le at l w) (step.none le′ at′ l′ o′ f′) = let k : _≡_ {A = ℕ} 0 1 = let j = sym at ∙ at′ in cc in absurd (omega arith)
+turn-same (step.none le at l o f) (step.ride lt′ l′ w′) = absurd (omega arith)
+turn-same (step.none le at l o f) (step.line i′ q′ le′ at′ g′ w′) = let k : _≡_ {A = ℕ} 0 1 = let j = sym at ∙ at′ in cc in absurd (omega arith)
+turn-same (step.none le at l o f) (step.unfinished le′ at′ l′ w′) = let k : _≡_ {A = ℕ} 0 1 = let j = sym at ∙ at′ in cc in absurd (omega arith)
+turn-same (step.none le at l o f) (step.none le′ at′ l′ o′ f′) = (f ∙ sym f′, l ∙ sym l′, o ∙ sym o′)
+
+pub step-one : (t runs codes tables : List ℕ) (s : Stage) (list out l m o n : List ℕ) (x y : Step) → StepOf t runs codes tables s list out l o x →
+    StepOf t runs codes tables s list out m n y → (x ≡ y) × (l ≡ m) × (o ≡ n)
+step-one t runs codes tables (Refused r) list out l m o n x y S T = let e = writes-one (S .0) (T .0) in (e .0, S .1 ∙ sym (T .1), e .1)
+step-one t runs codes tables (Asks z p) list out l m o n x y S T = turn-same S T
+step-one t runs codes tables Over list out l m o n x y S T = (S .0 ∙ sym (T .0), S .1 ∙ sym (T .1), S .2 ∙ sym (T .2))
