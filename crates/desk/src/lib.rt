@@ -6,6 +6,7 @@ use kinds::Label;
 use kinds::Refusal;
 use kinds::Run;
 use kinds::Stop;
+use kinds::Text;
 use reader::Counts;
 use reader::ReadAnswer;
 use report::Change;
@@ -18,8 +19,8 @@ ghost use mathlib.Core.Logic.{_⊎_};
 ghost use lib.ListN.{length};
 ghost use Rattle.loops.specs.Zero.{zeros};
 ghost use Rattle.journeys.specs.Tables.{outs, ins, LabelAt};
-ghost use Rattle.kinds.specs.Limits.{noPivot, runsRoom, codesRoom};
-ghost use Rattle.tables.specs.File.{tablesOf, labelsOf, labelAt, pivotOf};
+ghost use Rattle.kinds.specs.Limits.{noPivot, runsRoom, codesRoom, mostText};
+ghost use Rattle.tables.specs.File.{tablesOf, fileRoom, labelsOf, labelAt, pivotOf};
 ghost use Rattle.tables.specs.Judged.{judgedTables};
 ghost use Rattle.tables.specs.Good.{GoodFile};
 ghost use Rattle.reader.specs.Text.{readText, runsOf, codesOf};
@@ -52,6 +53,19 @@ pub fn told_room() -> usize
     ensures { λ r. ⌜ r ≡ toldRoom ⌝ }
 {
     TOLD_ROOM
+}
+
+// Room for a timetable text, and for a tables file, with one byte more: that tells a longer file from one that fits.
+pub fn text_room() -> [u8; Text::MOST + 1]
+    ensures { λ r. ⌜ mostText + 1 ≡ length r ⌝ }
+{
+    [0; Text::MOST + 1]
+}
+
+pub fn tables_room() -> [u8; tables::FILE_ROOM + 1]
+    ensures { λ r. ⌜ fileRoom + 1 ≡ length r ⌝ }
+{
+    [0; tables::FILE_ROOM + 1]
 }
 
 // ---- A label by its ends.
