@@ -12,7 +12,7 @@ ghost use Rattle.timetable.specs.Numbers.{runAt};
 ghost use Rattle.askline.specs.AskLine.{askLine};
 ghost use Rattle.printed.specs.Printed.{lineRoom};
 ghost use Rattle.printed.specs.Wrote.{Wrote};
-ghost use Rattle.answers.specs.Answers.{LineGets, headOf, ridesIn, codeAt, runLine};
+ghost use Rattle.answers.specs.Answers.{LineGets, headOf, codeAt, runLine};
 ghost use Rattle.answers.specs.AnswersLaws.{Ridden};
 
 // What the line of the input from `from` up to `to` gets; its rides are in the list.
@@ -68,16 +68,6 @@ pub fn head(out: &mut [u8], answer: RidesAnswer) -> usize
     match answer {
         RidesAnswer::At(j) => printed::at_line(out, j.dep as u32, j.arr as u32, j.rides),
         RidesAnswer::No(r) => printed::no_line(out, r.number),
-    }
-}
-
-// How many ride lines follow it.
-pub fn rides_in(answer: RidesAnswer) -> u32
-    ensures { λ r. ⌜ r ≡ ridesIn answer ⌝ }
-{
-    match answer {
-        RidesAnswer::At(j) => j.rides,
-        RidesAnswer::No(_) => 0,
     }
 }
 

@@ -6,12 +6,14 @@ use kinds::Refusal;
 use kinds::Text;
 use reader::ReadAnswer;
 use rides::Listed;
+use rides::RidesAnswer;
 ghost use mathlib.Core.Path.{_≡_};
 ghost use Prim.Native.Nat.{ℕ, _+_, _≤_, _<_};
 ghost use lib.ListN.{length, take, getD};
 ghost use Rattle.loops.specs.Zero.{zeros};
 ghost use Rattle.timetable.specs.Numbers.{runAt};
-ghost use Rattle.answers.specs.Answers.{runLine};
+ghost use Rattle.kinds.specs.Limits.{mostInput};
+ghost use Rattle.answers.specs.Answers.{ridesIn, runLine};
 ghost use Rattle.answers.specs.AnswersLaws.{Ridden};
 ghost use Rattle.tables.specs.OneFile.{AreBytes};
 ghost use Rattle.reader.specs.Text.{answerOf, runsOf, codesOf};
@@ -35,6 +37,15 @@ pub struct Turn {
     pub at: usize,
     pub ride: u32,
     pub rides: u32,
+}
+
+impl Turn {
+    // The first of so many rides, and then the line at `at`.
+    fn new(at: usize, rides: u32) -> Turn
+        ensures { λ r. ⌜ r ≡ record { at = at; ride = 0; rides = rides } ⌝ }
+    {
+        Turn { at, ride: 0, rides }
+    }
 }
 
 // What is still to be printed: the refusal of the timetable or of the build, what the asks get, or nothing.
@@ -93,18 +104,15 @@ pub fn start(
                 BuildAnswer::No(r) => Stage::Refused(r),
                 BuildAnswer::Built(length, _) => {
                     let end = askline::timetable_end(input);
+                    let bytes = length as usize;
                     Stage::Asks(
                         Sizes {
                             stops: counts.stops,
                             runs: counts.runs,
                             text: end,
-                            tables: length as usize,
+                            tables: bytes,
                         },
-                        Turn {
-                            at: end,
-                            ride: 0,
-                            rides: 0,
-                        },
+                        Turn::new(end, 0),
                     )
                 }
             }
@@ -144,6 +152,18 @@ fn ride_step(
     )
 }
 
+// After the first line of an answer the rides that it lists have their turn, and then the line after the ask's LF, which stands at `end`. An ask that
+// is refused lists none, and ends nothing.
+fn turn_after(answer: RidesAnswer, end: usize) -> Turn
+    requires { ⌜ end < mostInput ⌝ }
+    ensures { λ r. ⌜ r ≡ record { at = end + 1; ride = 0; rides = ridesIn answer } ⌝ }
+{
+    match answer {
+        RidesAnswer::At(j) => Turn::new(end + 1, j.rides),
+        RidesAnswer::No(_) => Turn::new(end + 1, 0),
+    }
+}
+
 // The first line of what the ask line from `p.at` up to `end` gets.
 fn line_step(
     input: &[u8],
@@ -180,18 +200,8 @@ fn line_step(
         &mut work,
     );
     let n = answers::head(out, answer);
-    let rides = answers::rides_in(answer);
-    Step::Printed(
-        n,
-        Stage::Asks(
-            z,
-            Turn {
-                at: end + 1,
-                ride: 0,
-                rides,
-            },
-        ),
-    )
+    let after = turn_after(answer, end);
+    Step::Printed(n, Stage::Asks(z, after))
 }
 
 // The next listed ride, or else the next line.

@@ -10,7 +10,7 @@ use Rattle.output.proofs.line_step.Reads as reads
 use Rattle.output.proofs.line_step.Lts as lts
 use Rattle.answers.proofs.answer.Reads as answer-reads
 use Rattle.answers.proofs.head.Reads as head-reads
-use Rattle.answers.proofs.rides_in.Reads as rides-in-reads
+use Rattle.output.proofs.turn_after.Reads as turn-after-reads
 
 slice-aggregate-answer : tie.Need-slice-aggregate-answer
 slice-aggregate-answer c =
@@ -34,13 +34,10 @@ answer-requires c κs =
 head-requires : tie.Need-head-requires
 head-requires c κs = search needs
 
-rides-in-requires : tie.Need-rides-in-requires
-rides-in-requires c κs = search needs
-
-add-t26 : tie.Need-add-t26
-add-t26 c =
-    let s = c .before .before .before .before .before .before .before .before .before .before .before .before .before .before .before .before .before .before .before in
-    omega (arith, line-within _ _ _ (s .pre .1 .1 .1) .1)
+turn-after-requires : tie.Need-turn-after-requires
+turn-after-requires c κs =
+    let s = c .before .before .before .before .before .before .before .before .before .before .before .before .before .before .before .before .before .before in
+    omega (arith, line-within _ _ _ (s .pre .1 .1 .1) .1, s .pre .1 .0 .short)
 
 same-length : tie.Need-same-length
 same-length c = search needs
@@ -54,7 +51,7 @@ returns c =
     let a = h .before .before .before .before .before in
     let s = c .before .before .before .before .before .before .before .before .before .before .before .before .before .before .before .before .before .before .before in
     line (s .args .end) (a .answer .result) (s .pre .1 .1 .0) (s .pre .1 .1 .1) (a .answer .ensures .0)
-    (record { bytes = h .head .result; wrote = h .head .ensures .0; short = h .head .ensures .1; is = rw (c .rides-in .ensures) })
+    (record { bytes = h .head .result; wrote = h .head .ensures .0; short = h .head .ensures .1; is = rw (c .turn-after .ensures) })
 
 pub line-step-spec : {M : Type 1} → statement M
 line-step-spec =
@@ -65,8 +62,7 @@ line-step-spec =
     slice-aggregate-answer-3
     answer-requires
     head-requires
-    rides-in-requires
-    add-t26
+    turn-after-requires
     same-length
     same-length-2
     returns)

@@ -12,6 +12,7 @@ use Rattle.askline.proofs.timetable_end.Reads as timetable-end-reads
 use Rattle.builder.proofs.build.Reads as build-reads
 use Rattle.loops.proofs.zero_u16.Reads as zero-u16-reads
 use Rattle.loops.proofs.zero_u8.Reads as zero-u8-reads
+use Rattle.output.proofs.Turn.new.Reads as new-reads
 use Rattle.output.proofs.read_input.Reads as read-input-reads
 
 read-input-requires : tie.Need-read-input-requires
@@ -41,8 +42,11 @@ enum-known-built-2 c = search needs
 timetable-end-requires : tie.Need-timetable-end-requires
 timetable-end-requires c κs = search needs
 
-cast-t30 : tie.Need-cast-t30
-cast-t30 c = search needs
+cast-bytes : tie.Need-cast-bytes
+cast-bytes c = search needs
+
+new-requires : tie.Need-new-requires
+new-requires c κs = search needs
 
 same-length : tie.Need-same-length
 same-length c = search needs
@@ -99,11 +103,14 @@ same-length-12 c = search needs
 
 returns-3 : tie.Need-returns-3
 returns-3 c =
-    let k = c .before .before in
+    let e = c .before in
+    let k = e .before .before in
     let b = k .before .before .before .before .before .before in
     let d = b .before .before .before .before .before in
-    let r = d .before .before .before .before .before .before .read-input .ensures in
-    (start-built _ _ _ (r .0) _ (d .read2 .given .1) (r .1 .0) (b .build .ensures .0) _ _ (k .built2 .given .1) _ (c .timetable-end .ensures), (r .1 .0, (r .1 .1, (b .build .ensures .1, λ i. omega (arith, k .before .before .before .before .slice-known9 .given i)))))
+    let r = d .before .before .before .before .before .before .read-input .ensures in (
+      rw (c .new .ensures) (start-built _ _ _ (r .0) _ (d .read2 .given .1) (r .1 .0) (b .build .ensures .0) _ _ (k .built2 .given .1) _ (e .timetable-end .ensures)),
+      (r .1 .0, (r .1 .1, (b .build .ensures .1, λ i. omega (arith, k .before .before .before .before .slice-known9 .given i)))),
+    )
 
 pub start-spec : {M : Type 1} → statement M
 start-spec =
@@ -118,7 +125,8 @@ start-spec =
     enum-known-built
     enum-known-built-2
     timetable-end-requires
-    cast-t30
+    cast-bytes
+    new-requires
     same-length
     same-length-2
     same-length-3
