@@ -72,7 +72,7 @@ pub fn head(out: &mut [u8], answer: RidesAnswer) -> usize
 }
 
 // Where the code of stop j stands.
-fn code_at(codes: &[u32], j: usize) -> Code
+pub fn code_at(codes: &[u32], j: usize) -> Code
     requires { ⌜ 2 * j + 2 ≤ length (now codes) ⌝ }
     ensures { λ r. ⌜ r ≡ codeAt (now (codes .entry)) j ⌝ }
 {

@@ -1,5 +1,5 @@
-// The lines that the program "journey" prints, written into a buffer that the caller lends. Each function answers how many bytes the line has; what
-// stands in the buffer after them is as it was.
+// The lines that the program "journey" prints, written into a buffer that the caller lends, and the pieces that other printed lines are made of. Each
+// function answers the place after the bytes that it wrote; what stands in the buffer elsewhere is as it was.
 use kinds::Code;
 ghost use mathlib.Core.Path.{_≡_};
 ghost use mathlib.Core.List.{[], _∷_};
@@ -24,7 +24,7 @@ pub fn line_room() -> usize
 }
 
 // n bytes of s from `from` on.
-fn put_part(out: &mut [u8], at: usize, s: &[u8], from: usize, n: usize) -> usize
+pub fn put_part(out: &mut [u8], at: usize, s: &[u8], from: usize, n: usize) -> usize
     requires { ⌜ (at + n ≤ length (now out)) × (from + n ≤ length (now s)) ⌝ }
     ensures { λ r. ⌜ Wrote (now (out .entry)) at (take n (drop from (now (s .entry)))) (now (out .exit)) r ⌝ }
 {
@@ -51,7 +51,7 @@ fn put_decimal(out: &mut [u8], at: usize, n: u32) -> usize
 }
 
 // A space and a number.
-fn put_number(out: &mut [u8], at: usize, n: u32) -> usize
+pub fn put_number(out: &mut [u8], at: usize, n: u32) -> usize
     requires { ⌜ at + 1 + mostDigits ≤ length (now out) ⌝ }
     ensures { λ r. ⌜ Wrote (now (out .entry)) at (space ∷ decimal n) (now (out .exit)) r ⌝ }
     ensures { λ r. ⌜ r ≤ at + 1 + mostDigits ⌝ }
@@ -61,7 +61,7 @@ fn put_number(out: &mut [u8], at: usize, n: u32) -> usize
 }
 
 // A space and a code.
-fn put_code(out: &mut [u8], at: usize, text: &[u8], code: Code) -> usize
+pub fn put_code(out: &mut [u8], at: usize, text: &[u8], code: Code) -> usize
     requires { ⌜ at + 1 + mostCode ≤ length (now out) ⌝ }
     requires { ⌜ CodeIn (now text) code ⌝ }
     ensures { λ r. ⌜ Wrote (now (out .entry)) at (space ∷ codeOf (now (text .entry)) code) (now (out .exit)) r ⌝ }
@@ -72,7 +72,7 @@ fn put_code(out: &mut [u8], at: usize, text: &[u8], code: Code) -> usize
 }
 
 // The end of a line.
-fn put_lf(out: &mut [u8], at: usize) -> usize
+pub fn put_lf(out: &mut [u8], at: usize) -> usize
     requires { ⌜ at < length (now out) ⌝ }
     ensures { λ r. ⌜ Wrote (now (out .entry)) at (lf ∷ []) (now (out .exit)) r ⌝ }
 {

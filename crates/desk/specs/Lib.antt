@@ -1,0 +1,6 @@
+pub mod Spelled
+pub mod CheckLaws
+pub mod SpelledLaws
+pub mod Told
+pub mod ToldLaws
+pub mod ToldOne

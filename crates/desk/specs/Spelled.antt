@@ -1,0 +1,43 @@
+-- What the check's refusals name, spelled out. The timetable text is s; the reader left the codes' places and the runs' numbers; T are the tables.
+use Prim.Native.Nat.{ℕ}
+use mathlib.Core.Path.{_≡_}
+use mathlib.Core.Logic.{_≢_}
+use mathlib.Core.List.{List, [], _++_}
+use mathlib.Core.Option.{Option, none, some}
+use Rattle.kinds.specs.Refusals.{unsupported, gap}
+use Rattle.kinds.specs.declared.Refusal.{Refusal}
+use Rattle.journeys.specs.Tables.{Tables, LabelAt}
+use Rattle.timetable.specs.Numbers.{runAt}
+use Rattle.answers.specs.Answers.{codeAt}
+use Rattle.report.specs.Lines.{labelLine, runLine, stopLine}
+use Rattle.report.specs.declared.Change.{Change}
+use Rattle.report.specs.declared.Change.the-variants.{Direct, At}
+
+-- a label's pivot is where one changes
+abbrev pub changeAt : List ℕ → Option ℕ → Change
+changeAt codes none = Direct
+changeAt codes (some w) = At (codeAt codes w)
+
+-- label k, which is a label `from` to `to`
+pub record LabelSpelled (T : Tables) (s codes : List ℕ) (k : ℕ) (xs : List ℕ) : Type 0 where
+  pub from : ℕ
+  pub to : ℕ
+  pub dep : ℕ
+  pub arr : ℕ
+  pub pivot : Option ℕ
+  pub label : LabelAt T k from to dep arr pivot
+  pub is : xs ≡ labelLine s k (codeAt codes from) (codeAt codes to) dep arr (changeAt codes pivot)
+
+abbrev pub runSpelled : List ℕ → List ℕ → List ℕ → ℕ → List ℕ
+runSpelled s codes runs i =
+    let r = runAt runs i in
+    runLine s i (codeAt codes (r .from)) (codeAt codes (r .to)) (r .dep) (r .arr) (r .trip)
+
+abbrev pub stopSpelled : List ℕ → List ℕ → ℕ → List ℕ
+stopSpelled s codes j = stopLine s j (codeAt codes j)
+
+-- 19 names a label, 20 a run and a stop; any other refusal of the check names nothing that can be spelled out
+pub data Spelled (T : Tables) (s codes runs : List ℕ) (r : Refusal) (xs : List ℕ) : Type 0 where
+  a-label : r .number ≡ unsupported → LabelSpelled T s codes (r .place) xs → Spelled T s codes runs r xs
+  a-gap : r .number ≡ gap → xs ≡ runSpelled s codes runs (r .place) ++ stopSpelled s codes (r .stop) → Spelled T s codes runs r xs
+  nothing : r .number ≢ unsupported → r .number ≢ gap → xs ≡ [] → Spelled T s codes runs r xs

@@ -1,0 +1,132 @@
+-- Laws of what is spelled out: where the labels of a stop begin and end, that a number names one label, and that what a refusal names can be spelled out.
+use Prim.Native.Nat.{ℕ, suc, _+_, _*_, _≤_, _<_}
+use mathlib.Core.Path.{_≡_, refl, sym, ap, subst, _∙_}
+use mathlib.Core.List.{List}
+use mathlib.Core.Option.{Option, some}
+use mathlib.Core.Logic.{_⊎_, inl, inr}
+use native.Mathlib.Omega.{arith}
+use native.Mathlib.Decide.{ℕ-discrete}
+use Rattle.kinds.specs.Limits.{noPivot, runsRoom}
+use Rattle.kinds.specs.Refusals.{unsupported, gap}
+use Rattle.kinds.specs.declared.Refusal.{Refusal}
+use Rattle.journeys.specs.Tables.{Side, outs, ins, Tables, Entry, LabelAt, of-out, of-in}
+use Rattle.tables.specs.File.{stopsOf, startOf, labelsOf, labelAt, pivotOf, tablesOf}
+use Rattle.tables.specs.FileLaws.{start-none, start-more}
+use Rattle.tables.specs.Good.{GoodFile}
+use Rattle.tables.specs.TablesLaws.{pivot-none, pivot-some, good-stops, entry-read, entry-one, good-tables}
+use Rattle.timetable.specs.Numbers.{runAt, GoodRunAt}
+use Rattle.reader.specs.TextLaws.{GoodRead}
+use Rattle.answers.specs.AnswersLaws.{Named, named-all}
+use Rattle.report.specs.Lines.{ChangeIn}
+use Rattle.desk.specs.Spelled.{changeAt}
+use Rattle.desk.specs.CheckLaws.{Places}
+
+module _ (b : List ℕ) where
+  pub outs-first : tablesOf b .start outs 0 ≡ 0
+  unfolding tablesOf
+  outs-first = start-none b
+
+  -- the in-labels of a stop follow its out-labels, and the next stop's labels follow them
+  pub ins-follow : (s : ℕ) → tablesOf b .end outs s ≡ tablesOf b .start ins s
+  unfolding tablesOf
+  ins-follow s = sym (start-more b (2 * s))
+
+  pub outs-follow : (s : ℕ) → tablesOf b .end ins s ≡ tablesOf b .start outs (s + 1)
+  unfolding tablesOf
+  outs-follow s = let e : 2 * s + 1 + 1 ≡ 2 * (s + 1) = omega arith in sym (start-more b (2 * s + 1)) ∙ ap (startOf b) e
+
+module _ {b : List ℕ} {n : ℕ} (g : GoodFile b n) where
+  pub outs-last : tablesOf b .start outs n ≡ labelsOf b
+  unfolding tablesOf
+  outs-last = ap (λ (m : ℕ). startOf b (2 * m)) (sym (g .room .contents .stops))
+
+  -- label k stands between the bounds of stop s: it is an out-label or an in-label
+  pub label-out : (s k : ℕ) → s < n → tablesOf b .start outs s ≤ k → k < tablesOf b .end outs s →
+      LabelAt (tablesOf b) k s (labelAt b k .hub) (labelAt b k .dep) (labelAt b k .arr) (pivotOf (labelAt b k .pivot))
+  label-out s k lt low high = of-out (entry-read g outs s k lt low high)
+
+  pub label-in : (s k : ℕ) → s < n → tablesOf b .end outs s ≤ k → k < tablesOf b .end ins s →
+      LabelAt (tablesOf b) k (labelAt b k .hub) s (labelAt b k .dep) (labelAt b k .arr) (pivotOf (labelAt b k .pivot))
+  label-in s k lt low high = of-in (entry-read g ins s k lt (omega (arith, ins-follow b s)) high)
+
+-- a number names one label
+pub record SameLabel (u v d a : ℕ) (p : Option ℕ) (u′ v′ d′ a′ : ℕ) (p′ : Option ℕ) : Type 0 where
+  pub from : u ≡ u′
+  pub to : v ≡ v′
+  pub dep : d ≡ d′
+  pub arr : a ≡ a′
+  pub pivot : p ≡ p′
+
+no-side : outs ≡ ins → ⊥
+no-side e = let z : _≡_ {A = ℕ} 0 1 = cc in omega arith
+
+module _ {b : List ℕ} {n : ℕ} (g : GoodFile b n) {k u v d a u′ v′ d′ a′ : ℕ} {p p′ : Option ℕ} where
+  pub label-one : LabelAt (tablesOf b) k u v d a p → LabelAt (tablesOf b) k u′ v′ d′ a′ p′ → SameLabel u v d a p u′ v′ d′ a′ p′
+  label-one (of-out x) (of-out y) =
+      record { from = entry-one g x y .1; to = sym (x .hub) ∙ y .hub; dep = sym (x .dep) ∙ y .dep; arr = sym (x .arr) ∙ y .arr; pivot = sym (x .pivot) ∙ y .pivot }
+  label-one (of-in x) (of-in y) =
+      record { from = sym (x .hub) ∙ y .hub; to = entry-one g x y .1; dep = sym (x .dep) ∙ y .dep; arr = sym (x .arr) ∙ y .arr; pivot = sym (x .pivot) ∙ y .pivot }
+  label-one (of-out x) (of-in y) = absurd (no-side (entry-one g x y .0))
+  label-one (of-in x) (of-out y) = absurd (no-side (sym (entry-one g x y .0)))
+
+-- ---- the stops of a label are stops
+
+module _ {b : List ℕ} {n : ℕ} (g : GoodFile b n) {k u v d a : ℕ} where
+  pub label-from : {p : Option ℕ} → LabelAt (tablesOf b) k u v d a p → u < n
+  label-from (of-out x) = omega (arith, x .owner, good-stops g)
+  label-from (of-in x) = omega (arith, x .owner, good-stops g, good-tables g .below x)
+
+  pub label-to : {p : Option ℕ} → LabelAt (tablesOf b) k u v d a p → v < n
+  label-to (of-out x) = omega (arith, x .owner, good-stops g, good-tables g .below x)
+  label-to (of-in x) = omega (arith, x .owner, good-stops g)
+
+  some-pivot : {w : ℕ} → LabelAt (tablesOf b) k u v d a (some w) → w < n
+  some-pivot (of-out x) = omega (arith, good-tables g .pivot-high x, good-stops g)
+  some-pivot (of-in x) = omega (arith, good-tables g .pivot-high x, good-stops g)
+
+  pub label-pivot : (q : ℕ) → LabelAt (tablesOf b) k u v d a (pivotOf q) → (q ≡ noPivot) ⊎ (q < n)
+  label-pivot q l = go (ℕ-discrete q noPivot)
+    where
+      go : Dec (q ≡ noPivot) → (q ≡ noPivot) ⊎ (q < n)
+      go (yes e) = inl e
+      go (no e) = inr (some-pivot (subst (LabelAt (tablesOf b) k u v d a) (pivot-some q e) l))
+
+-- ---- what can be spelled out
+
+-- each stop has a code
+pub record AllNamed (s codes : List ℕ) (n : ℕ) : Type 0 where
+  pub stop : (j : ℕ) → j < n → Named s codes j
+
+pub change-in : {s codes : List ℕ} {n : ℕ} → AllNamed s codes n → (q : ℕ) → (q ≡ noPivot) ⊎ (q < n) → ChangeIn s (changeAt codes (pivotOf q))
+change-in {s} {codes} a q (inl e) = rw (pivot-none q e) tt
+change-in {s} {codes} {n} a q (inr lt) = go (ℕ-discrete q noPivot)
+  where
+    go : Dec (q ≡ noPivot) → ChangeIn s (changeAt codes (pivotOf q))
+    go (yes e) = rw (pivot-none q e) tt
+    go (no e) = rw (pivot-some q e) (a .stop q lt .code)
+
+-- run i, and its stops
+pub record RunNamed (s codes runs : List ℕ) (i : ℕ) : Type 0 where
+  pub run : GoodRunAt runs i
+  pub from : Named s codes (runAt runs i .from)
+  pub to : Named s codes (runAt runs i .to)
+
+-- what the refusal names, in tables of n stops
+pub record Spellable (b s codes runs : List ℕ) (n : ℕ) (r : Refusal) : Type 0 where
+  pub names : AllNamed s codes n
+  pub file : r .number ≡ unsupported → GoodFile b n
+  pub label : r .number ≡ unsupported → r .place < labelsOf b
+  pub run : r .number ≡ gap → RunNamed s codes runs (r .place)
+  pub stop : r .number ≡ gap → r .stop < n
+
+pub spellable : {s b codes runs : List ℕ} {roomR roomC stops count : ℕ} {r : Refusal} → runsRoom ≤ roomR → GoodRead s roomR roomC stops count runs codes →
+    Places b stops count r → Spellable b s codes runs stops r
+spellable {s} {b} {codes} {runs} {roomR} {roomC} {stops} {count} {r} room g p =
+    record {
+      names = record { stop = named-all g };
+      file = p .file;
+      label = p .label;
+      run = λ h. let q = g .good (r .place) (p .run h) in
+          record { run = record { stops = stops; few = g .few; long = omega (arith, g .few-runs, g .numbers-long, p .run h); good = q }; from = named-all g _ (q .from-stop); to = named-all g _ (q .to-stop) };
+      stop = p .stop;
+    }

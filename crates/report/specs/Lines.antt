@@ -1,0 +1,47 @@
+-- The other lines that the programs for people print.
+use Prim.Native.Nat.{ℕ}
+use mathlib.Core.List.{List, [], _∷_}
+use Rattle.kinds.specs.declared.Code.{Code}
+use Rattle.words.specs.Words.{space}
+use Rattle.printed.specs.Printed.{decimal, codeOf}
+use Rattle.printed.specs.Wrote.{CodeIn}
+use Rattle.report.specs.Texts.{bytes, counted, named, saying}
+use Rattle.report.specs.declared.Change.{Change}
+use Rattle.report.specs.declared.Change.the-variants.{Direct, At}
+
+-- "accepted"
+unfoldable pub acceptedLine : List ℕ
+acceptedLine = saying (bytes "accepted" ∷ [])
+
+-- where one changes, if the label has a pivot
+abbrev pub changeOf : List ℕ → Change → List ℕ
+changeOf s Direct = []
+changeOf s (At c) = named ", change at" s c
+
+-- its code stands in the text
+abbrev pub ChangeIn : List ℕ → Change → Type 0
+ChangeIn s Direct = Unit
+ChangeIn s (At c) = CodeIn s c
+
+-- "label 1: HUB to MOOR, leaves 505, arrives 560, change at QUAY-S"
+unfoldable pub labelLine : List ℕ → ℕ → Code → Code → ℕ → ℕ → Change → List ℕ
+labelLine s k from to dep arr change =
+    saying (counted "label" k ∷ named ":" s from ∷ named " to" s to ∷ counted ", leaves" dep ∷ counted ", arrives" arr ∷ changeOf s change ∷ [])
+
+-- "run 4: MOOR QUAY-N 490 540 15": as the timetable has it
+unfoldable pub runLine : List ℕ → ℕ → Code → Code → ℕ → ℕ → ℕ → List ℕ
+runLine s i from to dep arr trip =
+    saying (counted "run" i ∷ named ":" s from ∷ (space ∷ codeOf s to) ∷ (space ∷ decimal dep) ∷ (space ∷ decimal arr) ∷ (space ∷ decimal trip) ∷ [])
+
+-- "stop 2: QUAY-N"
+unfoldable pub stopLine : List ℕ → ℕ → Code → List ℕ
+stopLine s j c = saying (counted "stop" j ∷ named ":" s c ∷ [])
+
+-- "written: 4 stops, 6 runs, 6 labels, 54 bytes"
+unfoldable pub writtenLine : ℕ → ℕ → ℕ → ℕ → List ℕ
+writtenLine stops runs labels long =
+    saying (counted "written:" stops ∷ counted " stops," runs ∷ counted " runs," labels ∷ counted " labels," long ∷ bytes " bytes" ∷ [])
+
+-- room for any line
+abbrev pub lineRoom : ℕ
+lineRoom = 280

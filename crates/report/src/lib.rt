@@ -1,0 +1,367 @@
+// What the programs for people print, line by line, into a buffer that the caller lends: refusals in words, labels, runs and stops spelled out.
+// Each function answers the place after the bytes that it wrote; what stands in the buffer elsewhere is as it was.
+use kinds::Code;
+use kinds::Refusal;
+use printed::put_lf;
+use printed::put_number;
+ghost use mathlib.Core.Path.{_≡_};
+ghost use mathlib.Core.List.{[], _∷_, _++_};
+ghost use Prim.Native.Nat.{ℕ, _+_, _≤_, _<_};
+ghost use lib.ListN.{length};
+ghost use Rattle.words.specs.Words.{lf, space};
+ghost use Rattle.kinds.specs.Limits.{mostCode};
+ghost use Rattle.kinds.specs.Refusals.{overLimit, minutesCrossed, labelsOver};
+ghost use Rattle.printed.specs.Printed.{mostDigits, decimal, codeOf};
+ghost use Rattle.printed.specs.Wrote.{Wrote, CodeIn};
+ghost use Rattle.report.specs.Texts.{counted};
+ghost use Rattle.report.specs.Words.{wordsOf, mostWords, linePlace, placeOf, refusalLine};
+ghost use Rattle.report.specs.Lines.{acceptedLine, changeOf, ChangeIn, labelLine, runLine, stopLine, writtenLine, lineRoom};
+
+// Room for any line.
+pub const LINE_ROOM: usize = 280;
+
+pub fn line_room() -> usize
+    ensures { λ r. do ⌜ r ≡ (← ⟦LINE_ROOM⟧ .entry) ⌝ }
+    ensures { λ r. ⌜ r ≡ lineRoom ⌝ }
+{
+    LINE_ROOM
+}
+
+// Where one changes, if anywhere.
+pub enum Change {
+    Direct,
+    At(Code),
+}
+
+// ---- Pieces.
+
+fn put_text(out: &mut [u8], at: usize, s: &[u8]) -> usize
+    requires { ⌜ at + length (now s) ≤ length (now out) ⌝ }
+    ensures { λ r. ⌜ Wrote (now (out .entry)) at (now (s .entry)) (now (out .exit)) r ⌝ }
+{
+    printed::put_part(out, at, s, 0, s.len())
+}
+
+// A text and a number.
+fn put_counted(out: &mut [u8], at: usize, s: &[u8], n: u32) -> usize
+    requires { ⌜ at + length (now s) + 1 + mostDigits ≤ length (now out) ⌝ }
+    ensures { λ r. ⌜ Wrote (now (out .entry)) at (now (s .entry) ++ (space ∷ decimal n)) (now (out .exit)) r ⌝ }
+    ensures { λ r. ⌜ r ≤ at + length (now (s .entry)) + 1 + mostDigits ⌝ }
+{
+    let a = put_text(out, at, s);
+    put_number(out, a, n)
+}
+
+// A text and a code.
+fn put_named(out: &mut [u8], at: usize, s: &[u8], text: &[u8], code: Code) -> usize
+    requires { ⌜ at + length (now s) + 1 + mostCode ≤ length (now out) ⌝ }
+    requires { ⌜ CodeIn (now text) code ⌝ }
+    ensures { λ r. ⌜ Wrote (now (out .entry)) at (now (s .entry) ++ (space ∷ codeOf (now (text .entry)) code)) (now (out .exit)) r ⌝ }
+    ensures { λ r. ⌜ r ≤ at + length (now (s .entry)) + 1 + mostCode ⌝ }
+{
+    let a = put_text(out, at, s);
+    printed::put_code(out, a, text, code)
+}
+
+// ---- Refusals.
+
+// The words of a timetable's refusals, 1 to 8.
+fn put_text_words(out: &mut [u8], at: usize, number: u32) -> usize
+    requires { ⌜ at + mostWords ≤ length (now out) ⌝ }
+    requires { ⌜ (1 ≤ number) × (number ≤ overLimit) ⌝ }
+    ensures { λ r. ⌜ Wrote (now (out .entry)) at (wordsOf number) (now (out .exit)) r ⌝ }
+    ensures { λ r. ⌜ r ≤ at + mostWords ⌝ }
+{
+    if number == Refusal::FIRST_LINE {
+        return put_text(out, at, b"the first line is not \"timetable 1\"");
+    }
+    if number == Refusal::LINE_SHAPE {
+        return put_text(out, at, b"the line has no form that may stand here");
+    }
+    if number == Refusal::CODE_BAD {
+        return put_text(
+            out,
+            at,
+            b"the stop code is empty, too long, or holds a character that no code has",
+        );
+    }
+    if number == Refusal::CODE_REPEATED {
+        return put_text(out, at, b"an earlier stop has this code");
+    }
+    if number == Refusal::STOP_UNKNOWN {
+        return put_text(out, at, b"no stop has this code");
+    }
+    if number == Refusal::OWN_STOP {
+        return put_text(out, at, b"the run ends at the stop where it starts");
+    }
+    if number == Refusal::OUT_OF_RANGE {
+        return put_text(
+            out,
+            at,
+            b"a number is out of range, or the run does not arrive after it leaves",
+        );
+    }
+    put_text(
+        out,
+        at,
+        b"there are more stops or runs, or a longer text, than the limits allow",
+    )
+}
+
+// Those of a tables file and of an ask, 9 to 15.
+fn put_file_words(out: &mut [u8], at: usize, number: u32) -> usize
+    requires { ⌜ at + mostWords ≤ length (now out) ⌝ }
+    requires { ⌜ (overLimit < number) × (number ≤ minutesCrossed) ⌝ }
+    ensures { λ r. ⌜ Wrote (now (out .entry)) at (wordsOf number) (now (out .exit)) r ⌝ }
+    ensures { λ r. ⌜ r ≤ at + mostWords ⌝ }
+{
+    if number == Refusal::NO_TABLES {
+        return put_text(
+            out,
+            at,
+            b"the file holds no tables: it is too short, begins otherwise, or has no stops",
+        );
+    }
+    if number == Refusal::TABLES_LENGTH {
+        return put_text(
+            out,
+            at,
+            b"the tables are cut short or too long, or have more labels than the limit",
+        );
+    }
+    if number == Refusal::LABEL_BAD {
+        return put_text(
+            out,
+            at,
+            b"the tables hold a label that is not good, or not in its order",
+        );
+    }
+    if number == Refusal::STOP_HIGH {
+        return put_text(out, at, b"no stop has this number");
+    }
+    if number == Refusal::SAME_STOP {
+        return put_text(out, at, b"both stops are the same");
+    }
+    if number == Refusal::MINUTE_HIGH {
+        return put_text(out, at, b"the minute is later than the last one of a day");
+    }
+    put_text(out, at, b"the first minute is later than the second")
+}
+
+// Those of an ask's answer, of the check and of the build, 16 to 22.
+fn put_answer_words(out: &mut [u8], at: usize, number: u32) -> usize
+    requires { ⌜ at + mostWords ≤ length (now out) ⌝ }
+    requires { ⌜ (minutesCrossed < number) × (number ≤ labelsOver) ⌝ }
+    ensures { λ r. ⌜ Wrote (now (out .entry)) at (wordsOf number) (now (out .exit)) r ⌝ }
+    ensures { λ r. ⌜ r ≤ at + mostWords ⌝ }
+{
+    if number == Refusal::NO_JOURNEY {
+        return put_text(out, at, b"there is no journey");
+    }
+    if number == Refusal::ROOM_SHORT {
+        return put_text(out, at, b"the lent room is too short");
+    }
+    if number == Refusal::RIDES_MISSING {
+        return put_text(out, at, b"a run or a label of the journey is missing");
+    }
+    if number == Refusal::UNSUPPORTED {
+        return put_text(
+            out,
+            at,
+            b"the tables hold a label that the timetable does not support",
+        );
+    }
+    if number == Refusal::GAP {
+        return put_text(
+            out,
+            at,
+            b"the tables miss a journey that begins with this run and ends at this stop",
+        );
+    }
+    if number == Refusal::STOPS_DIFFER {
+        return put_text(
+            out,
+            at,
+            b"the tables are for another number of stops than the timetable's",
+        );
+    }
+    put_text(out, at, b"the timetable needs more labels than the limit")
+}
+
+// The words of any refusal; another number has none.
+fn put_words(out: &mut [u8], at: usize, number: u32) -> usize
+    requires { ⌜ at + mostWords ≤ length (now out) ⌝ }
+    ensures { λ r. ⌜ Wrote (now (out .entry)) at (wordsOf number) (now (out .exit)) r ⌝ }
+    ensures { λ r. ⌜ r ≤ at + mostWords ⌝ }
+{
+    if number == 0 {
+        return at;
+    }
+    if number <= Refusal::OVER_LIMIT {
+        return put_text_words(out, at, number);
+    }
+    if number <= Refusal::MINUTES_CROSSED {
+        return put_file_words(out, at, number);
+    }
+    if number <= Refusal::LABELS_OVER {
+        return put_answer_words(out, at, number);
+    }
+    at
+}
+
+// The line of the timetable, if one is named.
+fn put_line_place(out: &mut [u8], at: usize, place: u32) -> usize
+    requires { ⌜ at + 40 ≤ length (now out) ⌝ }
+    ensures { λ r. ⌜ Wrote (now (out .entry)) at (linePlace place) (now (out .exit)) r ⌝ }
+    ensures { λ r. ⌜ r ≤ at + 40 ⌝ }
+{
+    if place == 0 {
+        return at;
+    }
+    let a = put_counted(out, at, b" at line", place);
+    put_text(out, a, b" of the timetable")
+}
+
+// The place of a refusal.
+fn put_place(out: &mut [u8], at: usize, r: Refusal) -> usize
+    requires { ⌜ at + 40 ≤ length (now out) ⌝ }
+    ensures { λ n. ⌜ Wrote (now (out .entry)) at (placeOf r) (now (out .exit)) n ⌝ }
+    ensures { λ n. ⌜ n ≤ at + 40 ⌝ }
+{
+    if r.number <= Refusal::OVER_LIMIT {
+        return put_line_place(out, at, r.place);
+    }
+    if r.number == Refusal::LABEL_BAD {
+        return put_counted(out, at, b" at label", r.place);
+    }
+    if r.number == Refusal::UNSUPPORTED {
+        return put_counted(out, at, b" at label", r.place);
+    }
+    if r.number == Refusal::GAP {
+        let a = put_counted(out, at, b" at run", r.place);
+        return put_counted(out, a, b", stop", r.stop);
+    }
+    at
+}
+
+// "refused NUMBER at PLACE: WORDS"
+pub fn refusal_line(out: &mut [u8], at: usize, r: Refusal) -> usize
+    requires { ⌜ at + lineRoom ≤ length (now out) ⌝ }
+    ensures { λ n. ⌜ Wrote (now (out .entry)) at (refusalLine r) (now (out .exit)) n ⌝ }
+    ensures { λ n. ⌜ n ≤ at + lineRoom ⌝ }
+{
+    let a = put_counted(out, at, b"refused", r.number);
+    let b = put_place(out, a, r);
+    let c = put_text(out, b, b": ");
+    let d = put_words(out, c, r.number);
+    put_lf(out, d)
+}
+
+// ---- Other lines.
+
+// "accepted"
+pub fn accepted_line(out: &mut [u8], at: usize) -> usize
+    requires { ⌜ at + lineRoom ≤ length (now out) ⌝ }
+    ensures { λ r. ⌜ Wrote (now (out .entry)) at acceptedLine (now (out .exit)) r ⌝ }
+    ensures { λ r. ⌜ r ≤ at + lineRoom ⌝ }
+{
+    let a = put_text(out, at, b"accepted");
+    put_lf(out, a)
+}
+
+fn put_change(out: &mut [u8], at: usize, text: &[u8], change: Change) -> usize
+    requires { ⌜ at + 80 ≤ length (now out) ⌝ }
+    requires { ⌜ ChangeIn (now text) change ⌝ }
+    ensures { λ r. ⌜ Wrote (now (out .entry)) at (changeOf (now (text .entry)) change) (now (out .exit)) r ⌝ }
+    ensures { λ r. ⌜ r ≤ at + 80 ⌝ }
+{
+    match change {
+        Change::Direct => at,
+        Change::At(code) => put_named(out, at, b", change at", text, code),
+    }
+}
+
+// "label K: FROM to TO, leaves DEP, arrives ARR, change at STOP"
+pub fn label_line(
+    out: &mut [u8],
+    at: usize,
+    text: &[u8],
+    k: u32,
+    from: Code,
+    to: Code,
+    dep: u32,
+    arr: u32,
+    change: Change,
+) -> usize
+    requires { ⌜ at + lineRoom ≤ length (now out) ⌝ }
+    requires { ⌜ CodeIn (now text) from × CodeIn (now text) to × ChangeIn (now text) change ⌝ }
+    ensures { λ r. ⌜ Wrote (now (out .entry)) at (labelLine (now (text .entry)) k from to dep arr change) (now (out .exit)) r ⌝ }
+    ensures { λ r. ⌜ r ≤ at + lineRoom ⌝ }
+{
+    let a = put_counted(out, at, b"label", k);
+    let b = put_named(out, a, b":", text, from);
+    let c = put_named(out, b, b" to", text, to);
+    let d = put_counted(out, c, b", leaves", dep);
+    let e = put_counted(out, d, b", arrives", arr);
+    let f = put_change(out, e, text, change);
+    put_lf(out, f)
+}
+
+// "run I: FROM TO DEP ARR TRIP"
+pub fn run_line(
+    out: &mut [u8],
+    at: usize,
+    text: &[u8],
+    i: u32,
+    from: Code,
+    to: Code,
+    dep: u32,
+    arr: u32,
+    trip: u32,
+) -> usize
+    requires { ⌜ at + lineRoom ≤ length (now out) ⌝ }
+    requires { ⌜ CodeIn (now text) from × CodeIn (now text) to ⌝ }
+    ensures { λ r. ⌜ Wrote (now (out .entry)) at (runLine (now (text .entry)) i from to dep arr trip) (now (out .exit)) r ⌝ }
+    ensures { λ r. ⌜ r ≤ at + lineRoom ⌝ }
+{
+    let a = put_counted(out, at, b"run", i);
+    let b = put_named(out, a, b":", text, from);
+    let c = printed::put_code(out, b, text, to);
+    let d = put_number(out, c, dep);
+    let e = put_number(out, d, arr);
+    let f = put_number(out, e, trip);
+    put_lf(out, f)
+}
+
+// "stop J: CODE"
+pub fn stop_line(out: &mut [u8], at: usize, text: &[u8], j: u32, code: Code) -> usize
+    requires { ⌜ at + lineRoom ≤ length (now out) ⌝ }
+    requires { ⌜ CodeIn (now text) code ⌝ }
+    ensures { λ r. ⌜ Wrote (now (out .entry)) at (stopLine (now (text .entry)) j code) (now (out .exit)) r ⌝ }
+    ensures { λ r. ⌜ r ≤ at + lineRoom ⌝ }
+{
+    let a = put_counted(out, at, b"stop", j);
+    let b = put_named(out, a, b":", text, code);
+    put_lf(out, b)
+}
+
+// "written: STOPS stops, RUNS runs, LABELS labels, LONG bytes"
+pub fn written_line(
+    out: &mut [u8],
+    at: usize,
+    stops: u32,
+    runs: u32,
+    labels: u32,
+    long: u32,
+) -> usize
+    requires { ⌜ at + lineRoom ≤ length (now out) ⌝ }
+    ensures { λ r. ⌜ Wrote (now (out .entry)) at (writtenLine stops runs labels long) (now (out .exit)) r ⌝ }
+    ensures { λ r. ⌜ r ≤ at + lineRoom ⌝ }
+{
+    let a = put_counted(out, at, b"written:", stops);
+    let b = put_counted(out, a, b" stops,", runs);
+    let c = put_counted(out, b, b" runs,", labels);
+    let d = put_counted(out, c, b" labels,", long);
+    let e = put_text(out, d, b" bytes");
+    put_lf(out, e)
+}
