@@ -3,10 +3,11 @@ use Prim.Native.Nat.{ℕ, _≤_}
 use mathlib.Core.Path.{_≡_, refl, sym, ap, subst, _∙_}
 use mathlib.Core.List.{List, _++_}
 use native.Mathlib.Omega.{arith}
+use lib.ListN.{length}
 use lib.Dec.{ltb}
 use borrow.Author.Tests.{ltb-false}
 use Rattle.loops.specs.Chain.{past}
-use Rattle.kinds.specs.Limits.{runsRoom, codesRoom, mostStops}
+use Rattle.kinds.specs.Limits.{runsRoom, codesRoom, mostStops, mostText}
 use Rattle.kinds.specs.declared.Refusal.{Refusal}
 use Rattle.reader.specs.declared.Counts.{Counts}
 use Rattle.reader.specs.declared.ReadAnswer.{ReadAnswer}
@@ -65,6 +66,14 @@ module _ (s : List ℕ) (roomR roomC : ℕ) where
   unfolding readText
   read-roomy w q = ltb-false roomR runsRoom (past (ltb roomR runsRoom) q (λ x. let y : _≡_ {A = ℕ} 0 1 = cc in omega arith) .0)
 
+  -- and only a text that is not too long
+  pub read-short : (w : Sofar) → readText s roomR roomC ≡ whole w → length s ≤ mostText
+  unfolding readText
+  read-short w q =
+      let z₁ = past (ltb roomR runsRoom) q (λ x. let y : _≡_ {A = ℕ} 0 1 = cc in omega arith) in
+      let z₂ = past (ltb roomC codesRoom) (z₁ .1) (λ x. let y : _≡_ {A = ℕ} 0 1 = cc in omega arith) in
+      ltb-false mostText (length s) (past (ltb mostText (length s)) (z₂ .1) (λ x. let y : _≡_ {A = ℕ} 0 1 = cc in omega arith) .0)
+
 -- ---- the check
 
 module _ {s : List ℕ} {roomR roomC : ℕ} {k : Counts} {numbers codes : List ℕ} (g : ReadWhole s roomR roomC k numbers codes) where
@@ -109,6 +118,22 @@ module _ {s b : List ℕ} {roomR roomC lent : ℕ} {l m : List ℕ} {a : Admitte
     where
       go : AdmitOf s b roomR roomC lent l m a → CheckTold s b roomR roomC lent acceptedLine × (m ≡ l)
       go (admits i x f h) = (told.accepted i x refl, h)
+      go (refuses xs i x f w) = let z : _≡_ {A = ℕ} 0 1 = cc in absurd (omega arith)
+
+  -- of accepted tables: the text was read, and what the two rooms hold is good
+  pub admitted-read : {k : Counts} {numbers codes : List ℕ} → a ≡ answer.Yes k → numbers ≡ runsOf (readText s roomR roomC) roomR → codes ≡ codesOf (readText s roomR roomC) roomC →
+      GoodRead s roomR roomC (k .stops) (k .runs) numbers codes × (length s ≤ mostText) × (runsRoom ≤ roomR)
+  admitted-read {k} {numbers} {codes} e en ec = go t
+    where
+      go : AdmitOf s b roomR roomC lent l m a → GoodRead s roomR roomC (k .stops) (k .runs) numbers codes × (length s ≤ mostText) × (runsRoom ≤ roomR)
+      go (admits i x f h) =
+          let same : i ≡ k = cc in
+          let w = x .read in
+          let q = x .whole in
+          let g = text-good s roomR roomC w q .0 in
+          let r : numbers ≡ w .numbers = en ∙ ap (λ (o : Outcome). runsOf o roomR) q in
+          let c : codes ≡ w .codes = ec ∙ ap (λ (o : Outcome). codesOf o roomC) q in
+          (rw (← same, x .stops, x .runs, r, c) g, read-short s roomR roomC w q, read-roomy s roomR roomC w q)
       go (refuses xs i x f w) = let z : _≡_ {A = ℕ} 0 1 = cc in absurd (omega arith)
 
 -- ---- the build

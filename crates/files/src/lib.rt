@@ -149,12 +149,17 @@ pub fn write_named(i: usize, bytes: &[u8]) -> bool {
     write(&path[..n], bytes)
 }
 
+// What has this name is longer than it may be.
+pub fn say_more(name: &[u8], most: usize) {
+    io::write_all(STDOUT_FILENO, name);
+    io::write_all(STDOUT_FILENO, b" has more than ");
+    io::print_decimal(STDOUT_FILENO, most as u64);
+    io::write_all(STDOUT_FILENO, b" bytes\n");
+}
+
 // The file that argument i names is longer than it may be.
 pub fn say_long(i: usize, most: usize) {
     let mut path = io::buffer();
     let n = os::arg(i, &mut path);
-    io::write_all(STDOUT_FILENO, &path[..n]);
-    io::write_all(STDOUT_FILENO, b" has more than ");
-    io::print_decimal(STDOUT_FILENO, most as u64);
-    io::write_all(STDOUT_FILENO, b" bytes\n");
+    say_more(&path[..n], most);
 }

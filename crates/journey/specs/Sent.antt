@@ -4,15 +4,9 @@ use Prim.Native.Nat.{ℕ}
 use mathlib.Core.Path.{_≡_}
 use mathlib.Core.List.{List}
 use lib.ListN.{length}
-use Rattle.output.specs.declared.Stage.{Stage}
-use Rattle.output.specs.Output.{Prints, OutputOf}
-use Rattle.journey.specs.declared.Sent.{Sent}
-use Rattle.journey.specs.declared.Sent.the-variants.{All, Cut}
-
--- from a stage on
-abbrev pub SentFrom : List ℕ → List ℕ → List ℕ → List ℕ → List ℕ → Stage → Sent → Type 0
-SentFrom t runs codes tables list s (All n) = (xs : List ℕ) × Prints t runs codes tables list s xs × (n ≡ length xs)
-SentFrom t runs codes tables list s Cut = Unit
+use Rattle.output.specs.Output.{OutputOf}
+use Rattle.sending.specs.declared.Sent.{Sent}
+use Rattle.sending.specs.declared.Sent.the-variants.{All, Cut}
 
 -- for the whole input
 abbrev pub SentFor : List ℕ → Sent → Type 0

@@ -10,9 +10,10 @@ use Rattle.builder.specs.Build.{buildRoom}
 use Rattle.output.specs.declared.Stage.{Stage}
 use Rattle.output.specs.Output.{readInput, StartOf, Prints}
 use Rattle.output.specs.OutputLaws.{start-output}
-use Rattle.journey.specs.Sent.{SentFrom, SentFor}
-use Rattle.journey.specs.declared.Sent.{Sent}
-use Rattle.journey.specs.declared.Sent.the-variants.{All, Cut}
+use Rattle.sending.specs.Sent.{SentFrom}
+use Rattle.journey.specs.Sent.{SentFor}
+use Rattle.sending.specs.declared.Sent.{Sent}
+use Rattle.sending.specs.declared.Sent.the-variants.{All, Cut}
 
 pub sent-for : (t runs codes tables list : List ℕ) (s : Stage) (r : Sent) → StartOf t runsRoom codesRoom buildRoom fileRoom tables s → AreBytes tables →
     runs ≡ runsOf (readInput t runsRoom codesRoom) runsRoom → codes ≡ codesOf (readInput t runsRoom codesRoom) codesRoom →

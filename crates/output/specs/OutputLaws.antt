@@ -49,7 +49,7 @@ module _ (t : List ℕ) (roomR roomC : ℕ) {work lent : ℕ} (runs codes tables
           let g : GoodRead (take (timetableEnd t) t) roomR roomC (k .stops) (k .runs) runs codes = rw (er, ec) (input-good t roomR roomC k e) in
           subst (Stands t runs codes tables list) (sym f)
           (record {
-            short = read-held t roomR roomC k e;
+            short = omega (arith, read-held t roomR roomC k e);
             text-in = timetable-within t;
             tables-in = omega (arith, built-within b);
             roomy = omega (arith, g .numbers-long);

@@ -5,7 +5,7 @@ use mathlib.Core.List.{List, [], _∷_, _++_, append-assoc, append-nil}
 use native.Mathlib.Omega.{arith}
 use native.Mathlib.Decide.{ℕ-discrete, decLt}
 use lib.ListN.{length, take, getD, replicate, length-replicate, length-append}
-use Rattle.kinds.specs.Limits.{mostInput, runsRoom, codesRoom, lastMinute}
+use Rattle.kinds.specs.Limits.{runsRoom, codesRoom, lastMinute}
 use Rattle.timetable.specs.Numbers.{runAt}
 use Rattle.rides.specs.declared.RidesAnswer.{RidesAnswer}
 use Rattle.ground.specs.Ground.{groundRoom}
@@ -19,7 +19,7 @@ use Rattle.answers.specs.Answers.{LineGets, headOf, ridesIn, runLine, rideLines
 use Rattle.answers.specs.AnswersLaws.{gets-one, gets-lent, Ridden, ridden-all}
 use Rattle.output.specs.Output.{Held, heldOf, LinesPrint, none, unfinished, line, TurnPrints, Prints, refusedLine}
 use Rattle.output.specs.Steps as step
-use Rattle.output.specs.Steps.{Writes, TurnStep, StepOf, Ready, Stands}
+use Rattle.output.specs.Steps.{Writes, TurnStep, StepOf, mostHeld, Ready, Stands}
 use Rattle.output.specs.declared.Sizes.{Sizes}
 use Rattle.output.specs.declared.Turn.{Turn}
 use Rattle.output.specs.declared.Stage.{Stage}
@@ -76,7 +76,7 @@ left long (Asks z p) = 1 + (suc lastMinute * (long - p .at) + (p .rides - p .rid
 left long Over = 0
 
 abbrev pub mostLines : ℕ
-mostLines = 1 + (suc lastMinute * mostInput + lastMinute)
+mostLines = 1 + (suc lastMinute * mostHeld + lastMinute)
 
 module _ (t runs codes tables list : List ℕ) where
   -- so many lines are left at most at any stage

@@ -3,7 +3,7 @@ use Prim.Native.Nat.{ℕ, _+_, _≤_, _<_}
 use mathlib.Core.Path.{_≡_}
 use mathlib.Core.List.{List}
 use lib.ListN.{length, take, getD}
-use Rattle.kinds.specs.Limits.{mostInput, runsRoom, lastMinute}
+use Rattle.kinds.specs.Limits.{mostText, mostInput, runsRoom, lastMinute}
 use Rattle.kinds.specs.Refusals.{lineShape}
 use Rattle.timetable.specs.Numbers.{runAt}
 use Rattle.reader.specs.TextLaws.{GoodRead}
@@ -50,9 +50,13 @@ StepOf t runs codes tables (Refused r) list out list′ out′ x = Writes out (r
 StepOf t runs codes tables (Asks z p) list out list′ out′ x = TurnStep (heldOf t runs codes tables z) t z p list out list′ out′ x
 StepOf t runs codes tables Over list out list′ out′ x = (x ≡ Nothing) × (list′ ≡ list) × (out′ ≡ out)
 
+-- a text and its asks, one behind the other, have no more bytes
+abbrev pub mostHeld : ℕ
+mostHeld = mostText + mostInput
+
 -- where a step may be made: the timetable was read, the sizes are within the rooms, and the rides of this turn can be printed
 pub record Ready (t runs codes tables list : List ℕ) (z : Sizes) (p : Turn) : Type 0 where
-  pub short : length t ≤ mostInput
+  pub short : length t ≤ mostHeld
   pub text-in : z .text ≤ length t
   pub tables-in : z .tables ≤ length tables
   pub roomy : runsRoom ≤ length runs

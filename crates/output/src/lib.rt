@@ -11,7 +11,6 @@ ghost use Prim.Native.Nat.{ℕ, _+_, _≤_, _<_};
 ghost use lib.ListN.{length, take, getD};
 ghost use Rattle.loops.specs.Zero.{zeros};
 ghost use Rattle.timetable.specs.Numbers.{runAt};
-ghost use Rattle.kinds.specs.Limits.{mostInput};
 ghost use Rattle.answers.specs.Answers.{ridesIn, runLine};
 ghost use Rattle.answers.specs.AnswersLaws.{Ridden};
 ghost use Rattle.tables.specs.OneFile.{AreBytes};
@@ -21,7 +20,7 @@ ghost use Rattle.printed.specs.Wrote.{Wrote};
 ghost use Rattle.askline.specs.declared.Piece.the-variants as piece;
 ghost use Rattle.askline.specs.Input.{pieceAt};
 ghost use Rattle.output.specs.Output.{readInput, StartOf, heldOf, refusedLine};
-ghost use Rattle.output.specs.Steps.{Writes, TurnStep, StepOf, Ready, Stands};
+ghost use Rattle.output.specs.Steps.{Writes, TurnStep, StepOf, mostHeld, Ready, Stands};
 
 // How much of each room is in use: stops, runs, bytes of the text and of the tables.
 pub struct Sizes {
@@ -154,7 +153,7 @@ fn ride_step(
 // After the first line of an answer the rides that it lists have their turn, and then the line after the ask's LF, which stands at `end`. An ask that
 // is refused lists none, and ends nothing.
 fn turn_after(answer: RidesAnswer, end: usize) -> Turn
-    requires { ⌜ end < mostInput ⌝ }
+    requires { ⌜ end < mostHeld ⌝ }
     ensures { λ r. ⌜ r ≡ record { at = end + 1; ride = 0; rides = ridesIn answer } ⌝ }
 {
     match answer {

@@ -7,7 +7,7 @@ use Rattle.journey.proofs.answer.Statement.{statement}
 use Rattle.journey.proofs.answer.Tie as tie
 use Rattle.journey.proofs.answer.Reads as reads
 use Rattle.journey.proofs.answer.Lts as lts
-use Rattle.journey.proofs.print.Reads as print-reads
+use Rattle.sending.proofs.print.Reads as print-reads
 use Rattle.output.proofs.start.Reads as start-reads
 
 slice-aggregate-start : tie.Need-slice-aggregate-start

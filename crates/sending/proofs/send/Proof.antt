@@ -1,10 +1,10 @@
 use mathlib.Core.Path.{sym}
 use lib.Seq.{length-take-le}
 use borrow.Author.Needs.{needs}
-use Rattle.journey.proofs.send.Statement.{statement}
-use Rattle.journey.proofs.send.Tie as tie
-use Rattle.journey.proofs.send.Reads as reads
-use Rattle.journey.proofs.send.Lts as lts
+use Rattle.sending.proofs.send.Statement.{statement}
+use Rattle.sending.proofs.send.Tie as tie
+use Rattle.sending.proofs.send.Reads as reads
+use Rattle.sending.proofs.send.Lts as lts
 use Rattle.io.proofs.write_all.Reads as write-all-reads
 
 slice-aggregate-write-all : tie.Need-slice-aggregate-write-all

@@ -6,11 +6,11 @@ use Rattle.printed.specs.Printed.{lineRoom}
 use Rattle.output.specs.StepLaws.{left}
 use Rattle.output.specs.OutputLaws.{Along, along-none, along-bytes, along-less, along-total, along-more, along-all}
 use borrow.Author.Needs.{needs}
-use Rattle.journey.proofs.print.Statement.{statement}
-use Rattle.journey.proofs.print.Tie as tie
-use Rattle.journey.proofs.print.Reads as reads
-use Rattle.journey.proofs.print.Lts as lts
-use Rattle.journey.proofs.send.Reads as send-reads
+use Rattle.sending.proofs.print.Statement.{statement}
+use Rattle.sending.proofs.print.Tie as tie
+use Rattle.sending.proofs.print.Reads as reads
+use Rattle.sending.proofs.print.Lts as lts
+use Rattle.sending.proofs.send.Reads as send-reads
 use Rattle.output.proofs.next.Reads as next-reads
 
 abbrev Inv-loop : tie.InvT-loop

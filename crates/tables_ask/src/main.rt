@@ -1,0 +1,141 @@
+// Answers ask lines from standard input by a tables file, once the check has accepted it against the timetable; else it says why not. What is said is
+// fixed in the crate `desk`, what the asks get in the crate `output`.
+use desk::Admitted;
+use files::FileRead;
+use kinds::Minute;
+use kinds::Refusal;
+use kinds::Run;
+use kinds::Stop;
+use kinds::Text;
+use libc::STDIN_FILENO;
+use libc::STDOUT_FILENO;
+use output::Sizes;
+use output::Stage;
+use output::Turn;
+ghost use mathlib.Core.Path.{_≡_};
+ghost use Prim.Native.Nat.{ℕ, _+_, _≤_};
+ghost use lib.ListN.{length, take, replicate};
+ghost use Rattle.kinds.specs.Limits.{mostText, mostInput, lastMinute};
+ghost use Rattle.files.specs.Files.{ReadWithin};
+ghost use Rattle.output.specs.Steps.{Ready};
+ghost use Rattle.tables_ask.specs.Held.{heldRoom, sizesOf, firstTurn};
+
+// Room for the text and, behind it, the asks; of each one byte more than there may be, which tells what is too long.
+fn held_room() -> [u8; Text::MOST + 1 + (Text::INPUT_MOST + 1)]
+    ensures { λ r. ⌜ heldRoom ≡ length r ⌝ }
+{
+    [0; Text::MOST + 1 + (Text::INPUT_MOST + 1)]
+}
+
+// The text.
+fn read_text(held: &mut [u8]) -> FileRead
+    requires { ⌜ heldRoom ≤ length (now held) ⌝ }
+    ensures { λ r. ⌜ ReadWithin (mostText + 1) r ⌝ }
+{
+    let end = Text::MOST + 1;
+    files::read_named(1, &mut held[..end])
+}
+
+// The asks, read behind the text. The text stays.
+fn read_asks(held: &mut [u8], n: usize) -> usize
+    requires { ⌜ n + (mostInput + 1) ≤ length (now held) ⌝ }
+    ensures { λ r. ⌜ r ≤ mostInput + 1 ⌝ }
+    ensures { λ _. ⌜ take n (now (held .exit)) ≡ take n (now (held .entry)) ⌝ }
+{
+    let end = n + (Text::INPUT_MOST + 1);
+    io::read_full(STDIN_FILENO, &mut held[n..end])
+}
+
+// Everything from the first ask line on.
+fn answer(input: &[u8], runs: &[u32], codes: &[u32], tables: &[u8], sizes: Sizes, first: Turn)
+    requires { ⌜ Ready (now input) (now runs) (now codes) (now tables) (replicate lastMinute 0) sizes first ⌝ }
+{
+    let mut list = [0u32; Minute::LAST as usize];
+    let mut out = [0u8; printed::LINE_ROOM];
+    sending::print(
+        input,
+        runs,
+        codes,
+        tables,
+        Stage::Asks(sizes, first),
+        &mut list,
+        &mut out,
+    );
+}
+
+// More asks than the program holds get one answer.
+fn refuse_asks() {
+    let mut out = [0u8; report::LINE_ROOM];
+    let told = report::refusal_line(&mut out, 0, Refusal::new(Refusal::OVER_LIMIT, 0));
+    io::write_all(STDOUT_FILENO, &out[..told]);
+    files::say_more(b"standard input", Text::INPUT_MOST);
+}
+
+// The check, and then the asks. The first n bytes of the room are the text.
+fn serve(held: &mut [u8], n: usize, tables: &[u8])
+    requires { ⌜ (heldRoom ≤ length (now held)) × (n ≤ mostText + 1) ⌝ }
+{
+    let mut runs = [0u32; Run::ROOM];
+    let mut codes = [0u32; Stop::CODES_ROOM];
+    let mut work = [0u16; ground::ROOM];
+    let mut out = [0u8; desk::TOLD_ROOM];
+    let admitted = desk::admit(
+        &held[..n],
+        tables,
+        &mut runs,
+        &mut codes,
+        &mut work,
+        &mut out,
+    );
+    match admitted {
+        Admitted::No(told) => {
+            io::write_all(STDOUT_FILENO, &out[..told]);
+        }
+        Admitted::Yes(counts) => {
+            let k = read_asks(held, n);
+            if Text::INPUT_MOST < k {
+                refuse_asks();
+                return;
+            }
+            let end = n + k;
+            answer(
+                &held[..end],
+                &runs,
+                &codes,
+                tables,
+                Sizes {
+                    stops: counts.stops,
+                    runs: counts.runs,
+                    text: n,
+                    tables: tables.len(),
+                },
+                Turn {
+                    at: n,
+                    ride: 0,
+                    rides: 0,
+                },
+            );
+        }
+    }
+}
+
+fn main() {
+    if !files::has_words(3, b"tables_ask TIMETABLE TABLES") {
+        return;
+    }
+    let mut held = held_room();
+    let FileRead::Read(n) = read_text(&mut held) else {
+        return;
+    };
+    let mut tables = desk::tables_room();
+    let FileRead::Read(m) = files::read_named(2, &mut tables) else {
+        return;
+    };
+    serve(&mut held, n, &tables[..m]);
+    if Text::MOST < n {
+        files::say_long(1, Text::MOST);
+    }
+    if tables::FILE_ROOM < m {
+        files::say_long(2, tables::FILE_ROOM);
+    }
+}
