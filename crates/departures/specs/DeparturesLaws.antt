@@ -1,4 +1,4 @@
--- Laws of the runs by departure: one run more, the walk along the runs of a minute, and that the index is one.
+-- Laws of the runs by departure: one run more, the walk along the runs of a bucket, and that the index is one.
 use Prim.Native.Nat.{ℕ, _+_, _-_, _≤_, _<_}
 use mathlib.Core.Path.{_≡_, refl, sym, ap₂, subst, _∙_}
 use mathlib.Core.List.{List}
