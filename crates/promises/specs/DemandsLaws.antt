@@ -29,7 +29,7 @@ pub checked-ask-one : (b : List ℕ) (stops count : ℕ) (list : List ℕ) (lent
 checked-ask-one b stops count list lent from to w x y f g =
     let same : f .verdict ≡ g .verdict = checked-one b stops count list lent (f .checked) (g .checked) in
     after-one (g .verdict) (serviceOf stops count list) (asked b from to w) x y
-        (subst (λ v. AfterCheck v (serviceOf stops count list) (asked b from to w) x) same (f .answer)) (g .answer)
+    (subst (λ v. AfterCheck v (serviceOf stops count list) (asked b from to w) x) same (f .answer)) (g .answer)
 
 built-after-one : (b : BuildAnswer) (S : Service) (q : AskRead) (x y : Answer) → AfterBuild b S q x → AfterBuild b S q y → x ≡ y
 built-after-one (build.Built length labels) S q x y f g = answers-one (Journey S) q x y f g
@@ -39,6 +39,8 @@ built-after-one (build.No r) S q x y f g = f ∙ sym g
 pub built-ask-one : (stops count : ℕ) (list : List ℕ) (work lent from to : ℕ) (w : Wanted) (s t : List ℕ) (x y : Answer) → AreBytes s → AreBytes t →
     BuiltAsk stops count list work lent from to w s x → BuiltAsk stops count list work lent from to w t y → (x ≡ y) × (s ≡ t)
 built-ask-one stops count list work lent from to w s t x y p q f g =
-    let same = build-one p q (f .built) (g .built) in
-    (built-after-one (g .answer) (serviceOf stops count list) (askRead stops from to w) x y
-        (subst (λ b. AfterBuild b (serviceOf stops count list) (askRead stops from to w) x) (same .0) (f .asked)) (g .asked), same .1)
+    let same = build-one p q (f .built) (g .built) in (
+      built-after-one (g .answer) (serviceOf stops count list) (askRead stops from to w) x y
+          (subst (λ b. AfterBuild b (serviceOf stops count list) (askRead stops from to w) x) (same .0) (f .asked)) (g .asked),
+      same .1,
+    )
