@@ -7,7 +7,7 @@ pub(crate) type Pair = (u16, u16);
 
 /// What is asked.
 #[derive(Clone, Copy)]
-pub(crate) enum Ask {
+pub enum Ask {
     Early(u32),
     Late(u32),
     Short(u32, u32),
@@ -89,27 +89,15 @@ fn join(
     best
 }
 
-fn ask(bytes: &[u8], from: u32, to: u32, ask: Ask) -> Result<Pair, Refusal> {
+fn found(bytes: &[u8], from: u32, to: u32, ask: Ask) -> Result<Pair, Refusal> {
     let tables = Tables::judge(bytes)?;
     let (u, v) = judge(tables.stops, from, to, ask)?;
     best(&tables, u, v, ask).ok_or(Refusal::plain(16))
 }
 
-fn answered(result: Result<Pair, Refusal>) -> [u32; 4] {
-    match result {
+pub fn ask(tables: &[u8], from: u32, to: u32, ask: Ask, answer: &mut [u32; 4]) {
+    *answer = match found(tables, from, to, ask) {
         Ok((dep, arr)) => [0, dep as u32, arr as u32, 0],
         Err(refusal) => refusal.answer(),
-    }
-}
-
-pub fn early(tables: &[u8], from: u32, to: u32, t: u32, answer: &mut [u32; 4]) {
-    *answer = answered(ask(tables, from, to, Ask::Early(t)));
-}
-
-pub fn late(tables: &[u8], from: u32, to: u32, t: u32, answer: &mut [u32; 4]) {
-    *answer = answered(ask(tables, from, to, Ask::Late(t)));
-}
-
-pub fn short(tables: &[u8], from: u32, to: u32, t: u32, t2: u32, answer: &mut [u32; 4]) {
-    *answer = answered(ask(tables, from, to, Ask::Short(t, t2)));
+    };
 }

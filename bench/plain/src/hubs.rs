@@ -96,7 +96,8 @@ impl Edges {
                     continue;
                 }
                 settled.push((s, arr));
-                let by_higher = |half: &Half| half.arr <= arr && reached_hub[half.hub as usize] <= half.dep;
+                let by_higher =
+                    |half: &Half| half.arr <= arr && reached_hub[half.hub as usize] <= half.dep;
                 if far[s].iter().any(by_higher) {
                     continue;
                 }
@@ -121,12 +122,8 @@ pub fn labels_by_hubs(stops: usize, runs: &[u32]) -> Vec<Found> {
         .chunks_exact(5)
         .map(|r| Edge { from: r[0] as u8, to: r[1] as u8, dep: r[2] as u16, arr: r[3] as u16 })
         .collect();
-    let mirror = |e: &Edge| Edge {
-        from: e.to,
-        to: e.from,
-        dep: mirrored(e.arr),
-        arr: mirrored(e.dep),
-    };
+    let mirror =
+        |e: &Edge| Edge { from: e.to, to: e.from, dep: mirrored(e.arr), arr: mirrored(e.dep) };
     let forward = Edges::new(stops, edges.iter().copied());
     let backward = Edges::new(stops, edges.iter().map(mirror));
     // In-labels as the forward search sees them, out-labels as the backward one does; and each as

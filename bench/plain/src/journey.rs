@@ -1,10 +1,7 @@
 //! The program "journey": input bytes to output bytes.
 
 use crate::read::number;
-use crate::{
-    build, early_rides, late_rides, read, short_rides, BUILD_ROOM, MINUTES, MOST_RUNS, MOST_STOPS,
-    RIDES_ROOM,
-};
+use crate::{ask_rides, build, read, Ask, BUILD_ROOM, MINUTES, MOST_RUNS, MOST_STOPS, RIDES_ROOM};
 use std::io::Write;
 
 const MOST_INPUT: usize = 65_536;
@@ -46,22 +43,17 @@ pub fn journey(input: &[u8]) -> Vec<u8> {
         let mut ask = |line: &[u8]| -> Result<[u32; 4], u32> {
             let line = line.strip_suffix(b"\n").ok_or(2u32)?;
             let fields: Vec<&[u8]> = line.split(|b| *b == b' ').collect();
-            let (t, t2) = match fields[..] {
-                [b"early" | b"late", _, _, t] => (number(t)?, 0),
-                [b"short", _, _, t, t2] => (number(t)?, number(t2)?),
+            let asked = match fields[..] {
+                [b"early", _, _, t] => Ask::Early(number(t)?),
+                [b"late", _, _, t] => Ask::Late(number(t)?),
+                [b"short", _, _, t, t2] => Ask::Short(number(t)?, number(t2)?),
                 _ => return Err(2),
             };
             let stop = |code| names.iter().position(|n| *n == code).ok_or(5u32);
             let (from, to) = (stop(fields[1])? as u32, stop(fields[2])? as u32);
             let (list, work) = (&mut list, &mut work);
             let mut a = [0; 4];
-            match fields[0] {
-                b"early" => {
-                    early_rides(tables, stops, count, &runs, from, to, t, list, work, &mut a)
-                }
-                b"late" => late_rides(tables, stops, count, &runs, from, to, t, list, work, &mut a),
-                _ => short_rides(tables, stops, count, &runs, from, to, t, t2, list, work, &mut a),
-            }
+            ask_rides(tables, stops, count, &runs, from, to, asked, list, work, &mut a);
             match a[0] {
                 0 => Ok(a),
                 number => Err(number),

@@ -1,9 +1,10 @@
 //! The kiosk's calls in plain, fast, unproved Rust: what ours is measured
 //! against.
 //!
-//! Each function takes the same bytes and slices as the call of the same name
-//! over the C boundary, gives the same answers and refusals in the same order,
-//! and leaves the same final contents in every lent buffer. The algorithms are
+//! Each function takes the same bytes and slices as the call of its name over
+//! the C boundary ([`ask`] and [`ask_rides`] stand for three calls each), gives
+//! the same answers and refusals in the same order, and leaves the same final
+//! contents in every lent buffer. The algorithms are
 //! as good as ours: one scan a departure in the builder, one pass over the
 //! labels a run in the check, one pass over two label sets in an ask.
 //!
@@ -20,13 +21,13 @@ mod read;
 mod rides;
 mod tables;
 
-pub use asks::{early, late, short};
+pub use asks::{ask, Ask};
 pub use build::{build, BUILD_ROOM};
 pub use check::{check, CHECK_ROOM};
 pub use hubs::{labels_by_hubs, Found};
 pub use journey::journey;
 pub use read::{read, read_by_scan};
-pub use rides::{early_rides, late_rides, short_rides, RIDES_ROOM};
+pub use rides::{ask_rides, RIDES_ROOM};
 
 /// A refusal: number, place, and for 20 the stop.
 #[derive(Clone, Copy, Debug, PartialEq, Eq)]

@@ -13,56 +13,7 @@ use crate::{numbers, Refusal, MINUTES};
 pub const RIDES_ROOM: usize = 3 * MINUTES;
 
 #[allow(clippy::too_many_arguments)]
-pub fn early_rides(
-    tables: &[u8],
-    stops: u32,
-    run_count: u32,
-    runs: &[u32],
-    from: u32,
-    to: u32,
-    t: u32,
-    list: &mut [u32],
-    work: &mut [u16],
-    answer: &mut [u32; 4],
-) {
-    *answer = ask(tables, stops, run_count, runs, from, to, Ask::Early(t), list, work);
-}
-
-#[allow(clippy::too_many_arguments)]
-pub fn late_rides(
-    tables: &[u8],
-    stops: u32,
-    run_count: u32,
-    runs: &[u32],
-    from: u32,
-    to: u32,
-    t: u32,
-    list: &mut [u32],
-    work: &mut [u16],
-    answer: &mut [u32; 4],
-) {
-    *answer = ask(tables, stops, run_count, runs, from, to, Ask::Late(t), list, work);
-}
-
-#[allow(clippy::too_many_arguments)]
-pub fn short_rides(
-    tables: &[u8],
-    stops: u32,
-    run_count: u32,
-    runs: &[u32],
-    from: u32,
-    to: u32,
-    t: u32,
-    t2: u32,
-    list: &mut [u32],
-    work: &mut [u16],
-    answer: &mut [u32; 4],
-) {
-    *answer = ask(tables, stops, run_count, runs, from, to, Ask::Short(t, t2), list, work);
-}
-
-#[allow(clippy::too_many_arguments)]
-fn ask(
+pub fn ask_rides(
     tables: &[u8],
     stops: u32,
     run_count: u32,
@@ -72,7 +23,8 @@ fn ask(
     ask: Ask,
     list: &mut [u32],
     work: &mut [u16],
-) -> [u32; 4] {
+    answer: &mut [u32; 4],
+) {
     list.fill(0);
     work.fill(0);
     let result = (|| {
@@ -87,7 +39,7 @@ fn ask(
         Ok([0, pair.0 as u32, pair.1 as u32, count as u32])
     })();
     work.fill(0);
-    result.unwrap_or_else(Refusal::answer)
+    *answer = result.unwrap_or_else(Refusal::answer);
 }
 
 /// Lists the rides of the best pair: 18, then 17.

@@ -1,7 +1,7 @@
 //! The whole suite over the plain implementation: what ours is measured against
 //! gives the same answers, and the tests can pass.
 
-use suite::{Asks, Builds, Checks, Program, Reads, Rides};
+use suite::{Ask, Asks, Builds, Checks, Kind, Numbers, Program, Reads, Rides};
 
 struct Plain;
 
@@ -20,15 +20,8 @@ impl Builds for Plain {
     fn build_room() -> usize {
         plain::BUILD_ROOM
     }
-    fn build(
-        stops: u32,
-        run_count: u32,
-        runs: &[u32],
-        tables: &mut [u8],
-        work: &mut [u16],
-        answer: &mut [u32; 4],
-    ) {
-        plain::build(stops, run_count, runs, tables, work, answer);
+    fn build(given: Numbers, tables: &mut [u8], work: &mut [u16], answer: &mut [u32; 4]) {
+        plain::build(given.stops, given.run_count, given.runs, tables, work, answer);
     }
 }
 
@@ -36,27 +29,22 @@ impl Checks for Plain {
     fn check_room() -> usize {
         plain::CHECK_ROOM
     }
-    fn check(
-        tables: &[u8],
-        stops: u32,
-        run_count: u32,
-        runs: &[u32],
-        work: &mut [u16],
-        answer: &mut [u32; 4],
-    ) {
-        plain::check(tables, stops, run_count, runs, work, answer);
+    fn check(tables: &[u8], given: Numbers, work: &mut [u16], answer: &mut [u32; 4]) {
+        plain::check(tables, given.stops, given.run_count, given.runs, work, answer);
+    }
+}
+
+fn asked(ask: Ask) -> plain::Ask {
+    match ask.kind {
+        Kind::Early => plain::Ask::Early(ask.t),
+        Kind::Late => plain::Ask::Late(ask.t),
+        Kind::Short => plain::Ask::Short(ask.t, ask.t2),
     }
 }
 
 impl Asks for Plain {
-    fn early(tables: &[u8], from: u32, to: u32, t: u32, answer: &mut [u32; 4]) {
-        plain::early(tables, from, to, t, answer);
-    }
-    fn late(tables: &[u8], from: u32, to: u32, t: u32, answer: &mut [u32; 4]) {
-        plain::late(tables, from, to, t, answer);
-    }
-    fn short(tables: &[u8], from: u32, to: u32, t: u32, t2: u32, answer: &mut [u32; 4]) {
-        plain::short(tables, from, to, t, t2, answer);
+    fn ask(tables: &[u8], ask: Ask, answer: &mut [u32; 4]) {
+        plain::ask(tables, ask.from, ask.to, asked(ask), answer);
     }
 }
 
@@ -64,48 +52,17 @@ impl Rides for Plain {
     fn rides_room() -> usize {
         plain::RIDES_ROOM
     }
-    fn early_rides(
+    fn ask_rides(
         tables: &[u8],
-        stops: u32,
-        run_count: u32,
-        runs: &[u32],
-        from: u32,
-        to: u32,
-        t: u32,
+        given: Numbers,
+        ask: Ask,
         list: &mut [u32],
         work: &mut [u16],
         answer: &mut [u32; 4],
     ) {
-        plain::early_rides(tables, stops, run_count, runs, from, to, t, list, work, answer);
-    }
-    fn late_rides(
-        tables: &[u8],
-        stops: u32,
-        run_count: u32,
-        runs: &[u32],
-        from: u32,
-        to: u32,
-        t: u32,
-        list: &mut [u32],
-        work: &mut [u16],
-        answer: &mut [u32; 4],
-    ) {
-        plain::late_rides(tables, stops, run_count, runs, from, to, t, list, work, answer);
-    }
-    fn short_rides(
-        tables: &[u8],
-        stops: u32,
-        run_count: u32,
-        runs: &[u32],
-        from: u32,
-        to: u32,
-        t: u32,
-        t2: u32,
-        list: &mut [u32],
-        work: &mut [u16],
-        answer: &mut [u32; 4],
-    ) {
-        plain::short_rides(tables, stops, run_count, runs, from, to, t, t2, list, work, answer);
+        let Numbers { stops, run_count, runs } = given;
+        let Ask { from, to, .. } = ask;
+        plain::ask_rides(tables, stops, run_count, runs, from, to, asked(ask), list, work, answer);
     }
 }
 

@@ -49,7 +49,10 @@ fn reads(rows: &mut Vec<Row>) {
         ("T", example::T.to_vec()),
         ("city, short codes", texts::text(&city, &short_codes)),
         ("255 codes of 64 bytes, 4,096 runs", texts::greatest_good(&mut rng)),
-        ("255 codes of 64 bytes made for one bucket", texts::text(&city, &texts::codes_of_one_bucket())),
+        (
+            "255 codes of 64 bytes made for one bucket",
+            texts::text(&city, &texts::codes_of_one_bucket()),
+        ),
         ("1,048,576 bytes, refused at the last line", texts::filled_to(&mut rng, 1_048_576)),
     ];
     for (name, text) in &inputs {
@@ -85,6 +88,7 @@ fn days_to_build() -> Vec<(String, Day)> {
         ("8,191 labels, 4 stops, 4,096 runs".into(), days::fullest()),
         ("4,096 runs at one stop pair".into(), days::one_pair(&mut rng)),
         ("many ties: 12 stops, 4,096 runs, 120 minutes".into(), days::many_ties(&mut rng)),
+        ("4,096 runs at one minute".into(), days::one_minute(&mut rng)),
         ("chain of 2,879 rides".into(), days::chain()),
         ("shuttle: 4,096 runs there and back".into(), days::shuttle()),
         ("sprawl: 255 stops, 4,096 runs, refused".into(), days::sprawl(&mut rng)),
@@ -180,6 +184,9 @@ fn checks(rows: &mut Vec<Row>) {
     inputs.push(("4,096 labels at one stop, 4,096 runs".into(), bytes, day));
     let (bytes, day) = with_runs(tables::star(4_096));
     inputs.push(("4,096 labels in a star, 4,096 runs".into(), bytes, day));
+    let (bytes, day) = with_runs(tables::one_bucket(4_096));
+    let name = format!("{0} runs and labels made for one bucket", day.run_count());
+    inputs.push((name, bytes, day));
     for (name, bytes, day) in inputs {
         rows.push(check_row(name, bytes, &day));
     }
@@ -203,13 +210,17 @@ fn check_row(name: String, bytes: Vec<u8>, day: &Day) -> Row {
     row("check", name, plain, linked.then_some(&mut ours))
 }
 
-fn plain_ask(tables: &[u8], ask: Ask, answer: &mut [u32; 4]) {
-    let Ask { from, to, t, t2, .. } = ask;
+/// An ask as plain takes it.
+fn plain_of(ask: Ask) -> plain::Ask {
     match ask.kind {
-        Kind::Early => plain::early(tables, from, to, t, answer),
-        Kind::Late => plain::late(tables, from, to, t, answer),
-        Kind::Short => plain::short(tables, from, to, t, t2, answer),
+        Kind::Early => plain::Ask::Early(ask.t),
+        Kind::Late => plain::Ask::Late(ask.t),
+        Kind::Short => plain::Ask::Short(ask.t, ask.t2),
     }
+}
+
+fn plain_ask(tables: &[u8], ask: Ask, answer: &mut [u32; 4]) {
+    plain::ask(tables, ask.from, ask.to, plain_of(ask), answer);
 }
 
 fn name_of(kind: Kind, with_rides: bool) -> &'static str {
@@ -292,18 +303,8 @@ fn plain_rides(
     answer: &mut [u32; 4],
 ) {
     let (stops, count) = (day.stops, day.run_count());
-    let Ask { from, to, t, t2, .. } = ask;
-    match ask.kind {
-        Kind::Early => {
-            plain::early_rides(tables, stops, count, runs, from, to, t, list, work, answer)
-        }
-        Kind::Late => {
-            plain::late_rides(tables, stops, count, runs, from, to, t, list, work, answer)
-        }
-        Kind::Short => {
-            plain::short_rides(tables, stops, count, runs, from, to, t, t2, list, work, answer)
-        }
-    }
+    let Ask { from, to, .. } = ask;
+    plain::ask_rides(tables, stops, count, runs, from, to, plain_of(ask), list, work, answer);
 }
 
 fn rides(rows: &mut Vec<Row>) {

@@ -50,7 +50,8 @@ pub fn markdown(rows: &[Row], growth: &[Growth]) -> String {
     let is_over = |row: &&Row| row.ratio().is_some_and(|r| r > TARGET);
     let over: Vec<&Row> = rows.iter().filter(is_over).collect();
     text.push_str("\nOver the target: ");
-    let names: Vec<String> = over.iter().map(|row| format!("{} on {}", row.entry, row.input)).collect();
+    let names: Vec<String> =
+        over.iter().map(|row| format!("{} on {}", row.entry, row.input)).collect();
     text.push_str(if names.is_empty() { "none" } else { "" });
     text.push_str(&names.join("; "));
     text.push_str(".\n\n## How build and check grow\n");
@@ -65,7 +66,8 @@ pub fn markdown(rows: &[Row], growth: &[Growth]) -> String {
     for row in rows {
         let (ours, plain) = (1e6 * row.ours.unwrap_or(0.0), 1e6 * row.plain);
         let ratio = row.ratio().unwrap_or(0.0);
-        writeln!(text, "| {} | {} | {ours:.2} | {plain:.2} | {ratio:.2} |", row.entry, row.input).unwrap();
+        writeln!(text, "| {} | {} | {ours:.2} | {plain:.2} | {ratio:.2} |", row.entry, row.input)
+            .unwrap();
     }
     text
 }
@@ -113,38 +115,65 @@ fn round_up(value: f64) -> f64 {
     }
 }
 
-fn panel(svg: &mut String, left: f64, title: &str, growth: &[Growth], lines: &[(&str, &str, usize)]) {
-    let most = growth
-        .iter()
-        .flat_map(|g| lines.iter().map(|line| g.millis()[line.2]))
-        .fold(0.0, f64::max);
+fn panel(
+    svg: &mut String,
+    left: f64,
+    title: &str,
+    growth: &[Growth],
+    lines: &[(&str, &str, usize)],
+) {
+    let most =
+        growth.iter().flat_map(|g| lines.iter().map(|line| g.millis()[line.2])).fold(0.0, f64::max);
     let top = round_up(most);
     let last = growth.last().map_or(1, |g| g.runs) as f64;
     let x = |runs: f64| left + 60.0 + 330.0 * runs / last;
     let y = |millis: f64| 300.0 - 250.0 * millis / top;
-    writeln!(svg, "<text x=\"{}\" y=\"28\" font-size=\"16\">{title}: milliseconds by runs</text>", left + 60.0).unwrap();
+    writeln!(
+        svg,
+        "<text x=\"{}\" y=\"28\" font-size=\"16\">{title}: milliseconds by runs</text>",
+        left + 60.0
+    )
+    .unwrap();
     for part in 0..=4 {
         let value = top * part as f64 / 4.0;
         let (from, to, at) = (x(0.0), x(last), y(value));
         writeln!(svg, "<path d=\"M{from:.1} {at:.1}H{to:.1}\" stroke=\"#dddddd\"/>").unwrap();
-        writeln!(svg, "<text x=\"{:.1}\" y=\"{:.1}\" text-anchor=\"end\">{value}</text>", from - 8.0, at + 4.0).unwrap();
+        writeln!(
+            svg,
+            "<text x=\"{:.1}\" y=\"{:.1}\" text-anchor=\"end\">{value}</text>",
+            from - 8.0,
+            at + 4.0
+        )
+        .unwrap();
     }
     for g in growth {
         let at = x(g.runs as f64);
-        writeln!(svg, "<text x=\"{at:.1}\" y=\"320\" text-anchor=\"middle\">{}</text>", g.runs).unwrap();
+        writeln!(svg, "<text x=\"{at:.1}\" y=\"320\" text-anchor=\"middle\">{}</text>", g.runs)
+            .unwrap();
     }
     for (i, (name, colour, column)) in lines.iter().enumerate() {
         let places: Vec<String> = growth
             .iter()
             .map(|g| format!("{:.1},{:.1}", x(g.runs as f64), y(g.millis()[*column])))
             .collect();
-        writeln!(svg, "<polyline points=\"{}\" fill=\"none\" stroke=\"{colour}\" stroke-width=\"2\"/>", places.join(" ")).unwrap();
+        writeln!(
+            svg,
+            "<polyline points=\"{}\" fill=\"none\" stroke=\"{colour}\" stroke-width=\"2\"/>",
+            places.join(" ")
+        )
+        .unwrap();
         for place in &places {
             let (cx, cy) = place.split_once(',').unwrap();
             writeln!(svg, "<circle cx=\"{cx}\" cy=\"{cy}\" r=\"3\" fill=\"{colour}\"/>").unwrap();
         }
         let at = 60.0 + 20.0 * i as f64;
-        writeln!(svg, "<path d=\"M{:.1} {at:.1}h22\" stroke=\"{colour}\" stroke-width=\"2\"/>", left + 80.0).unwrap();
-        writeln!(svg, "<text x=\"{:.1}\" y=\"{:.1}\">{name}</text>", left + 110.0, at + 4.0).unwrap();
+        writeln!(
+            svg,
+            "<path d=\"M{:.1} {at:.1}h22\" stroke=\"{colour}\" stroke-width=\"2\"/>",
+            left + 80.0
+        )
+        .unwrap();
+        writeln!(svg, "<text x=\"{:.1}\" y=\"{:.1}\">{name}</text>", left + 110.0, at + 4.0)
+            .unwrap();
     }
 }

@@ -1,21 +1,18 @@
 -- Laws of the answers: a line prints one text; and every listed ride can be printed.
 use Prim.Native.Nat.{ℕ, zero, suc, _+_, _*_, _-_, _≤_, _<_}
-use mathlib.Core.Path.{_≡_, refl, sym, ap, ap₂, subst, _∙_}
-use mathlib.Core.List.{List, [], _∷_, _++_}
-use mathlib.Core.Bool.{Bool, true, false, cond}
+use mathlib.Core.Path.{_≡_, sym, ap, ap₂, _∙_}
+use mathlib.Core.List.{List}
+use mathlib.Core.Bool.{true, false, cond}
 use native.Mathlib.Omega.{arith}
 use lib.ListN.{length, getD, replicate, length-append, List·getD-append}
 use lib.Dec.{eqb, leb}
 use borrow.Author.Tests.{leb-true}
 use Rattle.loops.specs.Chain.{past, stays}
-use Rattle.loops.specs.Every.{allB}
 use Rattle.loops.specs.Zero.{zeros}
-use Rattle.kinds.specs.Limits.{mostCode, runNumbers, mostStops, runsRoom}
-use Rattle.kinds.specs.Kinds.{isCodeByte, isCodeLength}
-use Rattle.kinds.specs.KindsLaws.{GoodRun}
-use Rattle.kinds.specs.declared.Run.{Run}
-use Rattle.journeys.specs.Service.{Service, RideAt}
-use Rattle.journeys.specs.Journey.{Journey, one, more, rides, RidesOf}
+use Rattle.kinds.specs.Limits.{mostCode, runsRoom}
+use Rattle.kinds.specs.Kinds.{isCodeLength}
+use Rattle.journeys.specs.Service.{Service}
+use Rattle.journeys.specs.Journey.{Journey, one, more, rides}
 use Rattle.journeys.specs.RidesLaws.{chosen-journey}
 use Rattle.tables.specs.File.{tablesOf}
 use Rattle.timetable.specs.Numbers.{runAt, serviceOf, GoodRunAt}

@@ -4,7 +4,7 @@ use kinds::Code;
 use kinds::Refusal;
 use rides::RidesAnswer;
 ghost use mathlib.Core.Path.{_≡_};
-ghost use Prim.Native.Nat.{ℕ, _+_, _*_, _≤_, _<_};
+ghost use Prim.Native.Nat.{_+_, _*_, _≤_};
 ghost use lib.ListN.{length, getD};
 ghost use Rattle.loops.specs.Zero.{zeros};
 ghost use Rattle.lookup.specs.LookupLaws.{Placed};

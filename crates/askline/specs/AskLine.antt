@@ -18,7 +18,6 @@ use Rattle.askline.specs.declared.LastRead.{LastRead}
 use Rattle.askline.specs.declared.LastRead.the-variants as last
 use Rattle.askline.specs.declared.GivenRead.{GivenRead}
 use Rattle.askline.specs.declared.GivenRead.the-variants as given
-use Rattle.askline.specs.declared.Shape.{Shape}
 use Rattle.askline.specs.declared.ShapeRead.{ShapeRead}
 use Rattle.askline.specs.declared.ShapeRead.the-variants as shape
 use Rattle.askline.specs.declared.LineRead.{LineRead}

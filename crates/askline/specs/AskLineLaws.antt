@@ -1,23 +1,17 @@
 -- What is known of an ask line that was read.
 use Prim.Native.Nat.{ℕ, _+_, _-_, _≤_, _<_}
-use mathlib.Core.Path.{_≡_, refl}
+use mathlib.Core.Path.{_≡_}
 use mathlib.Core.List.{List}
 use mathlib.Core.Bool.{Bool, true, false, cond}
 use native.Mathlib.Omega.{arith}
 use lib.ListN.{length}
 use lib.Dec.{leb}
 use borrow.Author.Tests.{leb-false}
-use Rattle.loops.specs.Chain.{past, stays}
+use Rattle.loops.specs.Chain.{past}
 use Rattle.words.specs.Words.{space, seek, beginsB}
-use Rattle.words.specs.WordsLaws.{seek-low, begins-long}
-use Rattle.lookup.specs.Lookup.{stopNamed}
-use Rattle.lookup.specs.LookupLaws.{Placed}
+use Rattle.words.specs.WordsLaws.{seek-low}
 use Rattle.lines.specs.declared.Field.{Field}
-use Rattle.reader.specs.declared.Counts.{Counts}
-use Rattle.reader.specs.declared.ReadAnswer.the-variants.{Read}
-use Rattle.reader.specs.Text.{readText, answerOf, codesOf}
-use Rattle.reader.specs.TextLaws.{read-good}
-use Rattle.askline.specs.AskLine.{minutesAt, shaped, shapeAt, earlyWord, lateWord, shortWord, shapeOf, namedBy, askOf, askLine}
+use Rattle.askline.specs.AskLine.{minutesAt, shaped, shapeAt, earlyWord, lateWord, shortWord, shapeOf}
 use Rattle.askline.specs.declared.Word.{Word}
 use Rattle.askline.specs.declared.Word.the-variants.{Early, Late, Short}
 use Rattle.askline.specs.declared.GivenRead.{GivenRead}
@@ -25,9 +19,6 @@ use Rattle.askline.specs.declared.GivenRead.the-variants as given
 use Rattle.askline.specs.declared.Shape.{Shape}
 use Rattle.askline.specs.declared.ShapeRead.{ShapeRead}
 use Rattle.askline.specs.declared.ShapeRead.the-variants as shape
-use Rattle.askline.specs.declared.Ask.{Ask}
-use Rattle.askline.specs.declared.LineRead.{LineRead}
-use Rattle.askline.specs.declared.LineRead.the-variants.{Asked, No}
 
 -- FROM and TO stand in the input
 pub record ShapeWithin (t : List ℕ) (f : Shape) : Type 0 where
@@ -75,30 +66,3 @@ shape-within t a e f h high = one (beginsB t a e earlyWord) h
         ShapeWithin t f
     one true g = at-within Early t (a + 6) e f g high
     one false g = two (beginsB t a e lateWord) g
-
--- the stops of an ask are stops of the timetable
-pub record KnownStops (stops : ℕ) (q : Ask) : Type 0 where
-  pub from-stop : q .from < stops
-  pub to-stop : q .to < stops
-
-pub ask-known : (s codes : List ℕ) (stops : ℕ) (t : List ℕ) (a e : ℕ) (q : Ask) → askLine s codes stops t a e ≡ Asked q → KnownStops stops q
-unfolding askLine
-ask-known s codes stops t a e q h = go (shapeOf t a e) h
-  where
-    go : (x : ShapeRead) → askOf s codes stops t x ≡ Asked q → KnownStops stops q
-    go shape.Bad g = absurd (let y : _≡_ {A = ℕ} 0 1 = cc in omega arith)
-    go (shape.Good f) g =
-        let u : ℕ = namedBy s codes stops t (f .from) in
-        let v : ℕ = namedBy s codes stops t (f .to) in
-        let z₁ = past (leb stops u) g (λ x. let y : _≡_ {A = ℕ} 0 1 = cc in omega arith) in
-        let z₂ = past (leb stops v) (z₁ .1) (λ x. let y : _≡_ {A = ℕ} 0 1 = cc in omega arith) in
-        let same : Asked (record { from = u; to = v; wanted = f .wanted }) ≡ Asked q = z₂ .1 in
-        let su : u ≡ q .from = cc in
-        let sv : v ≡ q .to = cc in
-        let lu : u < stops = leb-false stops u (z₁ .0) in
-        let lv : v < stops = leb-false stops v (z₂ .0) in
-        record { from-stop = omega arith; to-stop = omega arith }
-
--- over what the reader wrote the codes stand in the text, as `ask_at` requires
-pub read-placed : (s : List ℕ) (roomR roomC : ℕ) (k : Counts) → Read k ≡ answerOf (readText s roomR roomC) → Placed s (codesOf (readText s roomR roomC) roomC) (k .stops)
-read-placed s roomR roomC k e = read-good s roomR roomC k e .0 .placed

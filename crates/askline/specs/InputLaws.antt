@@ -12,8 +12,7 @@ use Rattle.words.specs.Words.{lf, seek, isWordB}
 use Rattle.words.specs.WordsLaws.{seek-end, seek-low}
 use Rattle.lines.specs.Lines.{endWord}
 use Rattle.askline.specs.Input.{endFrom, timetableEnd, pieceAt}
-use Rattle.askline.specs.declared.Piece.{Piece}
-use Rattle.askline.specs.declared.Piece.the-variants.{Line, Unfinished, Done}
+use Rattle.askline.specs.declared.Piece.the-variants.{Line}
 
 -- one line, where f lasts for the bytes that are left
 opened : (f : ℕ) (t : List ℕ) (a : ℕ) → a ≤ length t → length t ≤ f + a →

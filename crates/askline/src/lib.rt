@@ -2,10 +2,9 @@
 use asks::Wanted;
 use kinds::Refusal;
 use lines::Field;
-use words::Number;
 use words::NumberRead;
 ghost use mathlib.Core.Path.{_≡_};
-ghost use Prim.Native.Nat.{ℕ, _+_, _≤_, _<_};
+ghost use Prim.Native.Nat.{_+_, _≤_, _<_};
 ghost use lib.ListN.{length};
 ghost use Rattle.lookup.specs.LookupLaws.{Placed};
 ghost use Rattle.words.specs.Words.{isWordB};

@@ -1,21 +1,17 @@
 -- No second answer meets the contract; and what a good ask has.
-use Prim.Native.Nat.{ℕ, _≤_, _<_}
+use Prim.Native.Nat.{ℕ, _<_}
 use mathlib.Core.Path.{_≡_, refl, sym, ap, ap₂, _∙_}
-use mathlib.Core.List.{List}
 use mathlib.Core.Logic.{_≢_}
 use mathlib.Core.Bool.{Bool, true, false, cond}
 use native.Mathlib.Omega.{arith}
-use lib.Dec.{ltb, eqb}
+use lib.Dec.{eqb}
 use borrow.Author.Tests.{eqb-false}
-use Rattle.kinds.specs.Limits.{lastMinute}
 use Rattle.kinds.specs.Refusals.{sameStop, refusal}
-use Rattle.kinds.specs.Kinds.{stopOf, minuteOf}
+use Rattle.kinds.specs.Kinds.{stopOf}
 use Rattle.kinds.specs.KindsLaws.{stop-good}
 use Rattle.kinds.specs.declared.Stop.{Stop}
 use Rattle.kinds.specs.declared.StopRead.{StopRead}
 use Rattle.kinds.specs.declared.StopRead.the-variants as stop
-use Rattle.journeys.specs.declared.Criterion.{Criterion}
-use Rattle.journeys.specs.Tables.{Tables, Sketch}
 use Rattle.journeys.specs.CriteriaLaws.{best-one, best-not-nothing}
 use Rattle.asks.specs.declared.Wanted.{Wanted}
 use Rattle.asks.specs.declared.Asked.{Asked}
@@ -23,7 +19,6 @@ use Rattle.asks.specs.declared.AskRead.{AskRead}
 use Rattle.asks.specs.declared.AskRead.the-variants as ask
 use Rattle.asks.specs.declared.MinutesRead.{MinutesRead}
 use Rattle.asks.specs.declared.MinutesRead.the-variants as minutes
-use Rattle.asks.specs.declared.Journey.{Journey}
 use Rattle.asks.specs.declared.Answer.{Answer}
 use Rattle.asks.specs.declared.Answer.the-variants.{At, No}
 use Rattle.asks.specs.Asks.{ifStop, ifMinutes, minutesRead, askRead, AnswersBy}

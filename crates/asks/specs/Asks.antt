@@ -1,5 +1,5 @@
 -- The three asks over a tables file: what is refused, and what is answered.
-use Prim.Native.Nat.{ℕ, _<_}
+use Prim.Native.Nat.{ℕ}
 use mathlib.Core.Path.{_≡_}
 use mathlib.Core.List.{List}
 use mathlib.Core.Bool.{cond}
@@ -16,11 +16,9 @@ use Rattle.journeys.specs.Criteria.{Best, Nothing}
 use Rattle.journeys.specs.Tables.{Tables, Sketch}
 use Rattle.tables.specs.declared.TablesRead.{TablesRead}
 use Rattle.tables.specs.declared.TablesRead.the-variants as tables
-use Rattle.tables.specs.File.{tablesOf}
 use Rattle.tables.specs.Judged.{judgedTables}
 use Rattle.asks.specs.declared.Wanted.{Wanted}
 use Rattle.asks.specs.declared.Wanted.the-variants as wanted
-use Rattle.asks.specs.declared.Asked.{Asked}
 use Rattle.asks.specs.declared.AskRead.{AskRead}
 use Rattle.asks.specs.declared.AskRead.the-variants as ask
 use Rattle.asks.specs.declared.MinutesRead.{MinutesRead}

@@ -1,16 +1,16 @@
 -- Candidates are sketches and weakly dominate all sketches, so the best candidate is the best sketch; and the turns of the join's loops.
 use Prim.Native.Nat.{ℕ, _+_, _≤_, _<_}
-use mathlib.Core.Path.{_≡_, refl, sym, subst, subst₂, _∙_}
+use mathlib.Core.Path.{_≡_, refl, sym, subst, _∙_}
 use mathlib.Core.Logic.{_⊎_, inl, inr, _≢_}
 use native.Mathlib.Omega.{arith}
 use native.Mathlib.Nat.{le-refl}
 use native.Mathlib.Decide.{ℕ-discrete, decLe, decLt}
 use Rattle.loops.specs.Decide.{dec-or, dec-then}
-use Rattle.loops.specs.First.{Passed, FirstAt}
+use Rattle.loops.specs.First.{FirstAt}
 use Rattle.loops.specs.FirstLaws.{passed-none, first-one, first-at}
 use Rattle.journeys.specs.declared.Criterion.{Criterion}
 use Rattle.journeys.specs.PairLaws.{Within, itself}
-use Rattle.journeys.specs.Tables.{Side, outs, ins, Tables, Entry, of-out, of-in, GoodTables, JoinAt, Sketch, single, joined}
+use Rattle.journeys.specs.Tables.{outs, ins, Tables, Entry, of-out, of-in, GoodTables, Sketch, single, joined}
 use Rattle.journeys.specs.SketchLaws.{entry-at}
 use Rattle.asks.specs.declared.Found.{Found}
 use Rattle.asks.specs.declared.Found.the-variants as found

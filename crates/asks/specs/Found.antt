@@ -1,15 +1,10 @@
 -- The best pair found so far among a set of pairs, and taking one pair more.
-use Prim.Native.Nat.{ℕ, _+_, _≤_, _<_}
-use mathlib.Core.Path.{_≡_, refl}
-use mathlib.Core.Logic.{_⊎_, inl, inr, _↔_}
+use Prim.Native.Nat.{ℕ, _+_}
 use mathlib.Core.Bool.{Bool, true, false, cond}
-use native.Mathlib.Omega.{arith}
 use lib.Dec.{ltb, leb, eqb}
-use borrow.Author.Tests.{ltb-true, ltb-false, leb-true, leb-false, eqb-true, eqb-false}
 use Rattle.journeys.specs.declared.Criterion.{Criterion}
 use Rattle.journeys.specs.declared.Criterion.the-variants.{Early, Late, Short}
-use Rattle.journeys.specs.Criteria.{Fits, Better, Best, Nothing}
-use Rattle.asks.specs.declared.Journey.{Journey}
+use Rattle.journeys.specs.Criteria.{Best, Nothing}
 use Rattle.asks.specs.declared.Found.{Found}
 use Rattle.asks.specs.declared.Found.the-variants as found
 

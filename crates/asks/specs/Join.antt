@@ -7,7 +7,7 @@ use lib.Dec.{leb, eqb}
 use Rattle.journeys.specs.declared.Criterion.{Criterion}
 use Rattle.asks.specs.declared.Found.{Found}
 use Rattle.kinds.specs.declared.Label.{Label}
-use Rattle.journeys.specs.Tables.{Tables, outs, ins, GoodTables}
+use Rattle.journeys.specs.Tables.{outs, ins, GoodTables}
 use Rattle.tables.specs.File.{tablesOf, labelsOf, labelAt}
 use Rattle.tables.specs.Good.{Room}
 use Rattle.loops.specs.First.{FirstAt}

@@ -2,7 +2,7 @@
 use Prim.Native.Nat.{ℕ, _+_, _≤_, _<_}
 use mathlib.Core.Path.{_≡_, refl, sym, ap, subst, _∙_}
 use mathlib.Core.List.{List}
-use mathlib.Core.Logic.{_⊎_, inl, inr}
+use mathlib.Core.Logic.{inl, inr}
 use mathlib.Core.Bool.{Bool, true, false, cond}
 use native.Mathlib.Omega.{arith}
 use native.Mathlib.Nat.{le-refl}
@@ -15,13 +15,13 @@ use Rattle.tables.specs.Good.{GoodFile}
 use Rattle.tables.specs.TablesLaws.{tables-stops, tables-start, tables-end, tables-within, good-tables}
 use Rattle.asks.specs.FoundLaws.{ahead-true, ahead-false}
 use Rattle.journeys.specs.declared.Criterion.{Criterion}
-use Rattle.journeys.specs.Tables.{Tables, outs, ins, Sketch}
+use Rattle.journeys.specs.Tables.{outs, ins, Sketch}
 use Rattle.loops.specs.First.{Passed, FirstAt}
 use Rattle.loops.specs.FirstLaws.{first-extend}
 use Rattle.asks.specs.declared.Found.{Found}
 use Rattle.asks.specs.declared.Found.the-variants as found
 use Rattle.asks.specs.Found.{FoundIn, taken}
-use Rattle.asks.specs.Candidates.{Past, FromOuts, Candidate, Behind}
+use Rattle.asks.specs.Candidates.{Past, FromOuts, Candidate}
 use Rattle.asks.specs.CandidateLaws.{behind-start, behind-more, outs-start, outs-own, outs-met, outs-none, ins-start, ins-own, ins-none, ins-past, found-sketch}
 use Rattle.asks.specs.Join.{Sets, pastB, OutTurn, Place, OutsTo, InsTo, inTurn}
 

@@ -1,30 +1,25 @@
 -- Laws of the build: from all labels counted to the room that they need, from all labels written to the rule's file; and one result at most.
-use Prim.Native.Nat.{ℕ, zero, suc, _+_, _*_, _-_, min, _≤_, _<_}
-use mathlib.Core.Path.{_≡_, refl, sym, ap, ap₂, subst, _∙_}
-use mathlib.Core.List.{List, [], _∷_, _++_}
-use mathlib.Core.Logic.{_↔_}
-use mathlib.Core.Option.{Option}
+use Prim.Native.Nat.{ℕ, zero, suc, _+_, _-_, min, _≤_, _<_}
+use mathlib.Core.Path.{_≡_, sym, ap, ap₂, _∙_}
+use mathlib.Core.List.{List, _++_}
 use native.Mathlib.Omega.{arith}
 use native.Mathlib.Decide.{decLt}
 use lib.ListN.{length, getD, replicate, drop, List·getD-append, List·getD-eq-default}
 use Rattle.kinds.specs.Limits.{mostStops, mostLabels}
 use Rattle.journeys.specs.Service.{Service, GoodService}
-use Rattle.journeys.specs.Tables.{Side, Tables, Entry}
-use Rattle.journeys.specs.Rule.{ByRule}
-use Rattle.journeys.specs.RuleLaws.{Part, by-rule-same}
+use Rattle.journeys.specs.RuleLaws.{by-rule-same}
 use Rattle.journeys.specs.Count.{RuleCount}
 use Rattle.journeys.specs.CountLaws.{pairs-one, rule-count-one}
 use Rattle.tables.specs.File.{placeOf, tablesOf}
 use Rattle.tables.specs.GoodLaws.{good-judged}
 use Rattle.tables.specs.OneFile.{AreBytes, SameLabels, one-file}
-use Rattle.scan.specs.Ordered.{read}
 use Rattle.counts.specs.Sums.{sum}
 use Rattle.counts.specs.SumLaws.{sum-same}
 use Rattle.counts.specs.Sets.{SetsTo, CountedAll}
 use Rattle.builder.specs.Contents.{Sized}
 use Rattle.builder.specs.Writing.{WrittenTo}
 use Rattle.builder.specs.ByRuleLaws.{rule-file, rule-by}
-use Rattle.builder.specs.Build.{buildRoom, RuleFile, BuiltOf, over, short, built, BuildOf, refused, good}
+use Rattle.builder.specs.Build.{RuleFile, BuiltOf, over, short, built, BuildOf, refused, good}
 use Rattle.builder.specs.declared.BuildAnswer.{BuildAnswer}
 use Rattle.builder.specs.declared.BuildAnswer.the-variants.{Built, No}
 

@@ -2,30 +2,25 @@
 use Prim.Native.Nat.{ℕ, zero, suc, _+_, _*_, _-_, _/_, _%_, min, _≤_, _<_}
 use mathlib.Core.Path.{_≡_, refl, sym, ap, ap₂, subst, subst₂, subst₃, _∙_}
 use mathlib.Core.List.{List}
-use mathlib.Core.Logic.{_⊎_, inl, inr, _≢_, _↔_, ⊎-elim}
+use mathlib.Core.Logic.{_⊎_, inl, inr, _≢_, _↔_}
 use mathlib.Core.Option.{Option, none, some}
-use native.Mathlib.Nat.{le-refl, eq-or-lt-of-le}
+use native.Mathlib.Nat.{le-refl}
 use native.Mathlib.Omega.{arith}
-use native.Mathlib.Decide.{ℕ-discrete, decLe, decLt}
-use lib.ListN.{length, getD}
+use native.Mathlib.Decide.{ℕ-discrete, decLt}
 use Rattle.loops.specs.Rows.{Among}
-use Rattle.kinds.specs.Limits.{mostStops, mostLabels, noPivot, lastMinute}
+use Rattle.kinds.specs.Limits.{mostStops, mostLabels, noPivot}
 use Rattle.kinds.specs.KindsLaws.{GoodPivot}
-use Rattle.kinds.specs.declared.Label.{Label}
 use Rattle.journeys.specs.Service.{Service, GoodService}
-use Rattle.journeys.specs.Journey.{Journey, Undominated}
-use Rattle.journeys.specs.Tables.{Side, outs, ins, Tables, Entry}
-use Rattle.journeys.specs.Rule.{Pivot, by-run, by-stop, Rule, ByRule}
+use Rattle.journeys.specs.Tables.{Side, outs, ins, Entry}
+use Rattle.journeys.specs.Rule.{Pivot, by-stop, Rule, ByRule}
 use Rattle.journeys.specs.Count.{Timed, PairLabels, RuleCount}
-use Rattle.journeys.specs.JourneyLaws.{journey-later, journey-last, journey-from, journey-to, Via, between-iff, visits-iff, not-start, not-end}
+use Rattle.journeys.specs.JourneyLaws.{journey-later, journey-last, journey-from, journey-to, Via, between-iff, not-start, not-end}
 use Rattle.journeys.specs.RuleLaws.{none-via}
-use Rattle.tables.specs.Format.{formatMark}
-use Rattle.tables.specs.File.{stopsOf, setOf, ownerOf, countOf, startOf, endOf, labelsOf, placeOf, labelAt, pivotOf, tablesOf}
-use Rattle.tables.specs.FileLaws.{start-more}
-use Rattle.tables.specs.TablesLaws.{pivot-none, pivot-some, pivot-is, set-below, set-owner}
-use Rattle.tables.specs.Good.{After, higher, later, LabelGood, GoodEntry, GoodFile}
+use Rattle.tables.specs.File.{setOf, ownerOf, countOf, startOf, endOf, labelsOf, labelAt, pivotOf, tablesOf}
+use Rattle.tables.specs.TablesLaws.{pivot-some, pivot-is, set-below, set-owner}
+use Rattle.tables.specs.Good.{After, higher, later, LabelGood, GoodFile}
 use Rattle.counts.specs.Sums.{sum}
-use Rattle.counts.specs.SumLaws.{sum-none, sum-suc, sum-part, sum-rises, rows-sum, rows-all}
+use Rattle.counts.specs.SumLaws.{sum-none, sum-suc, rows-sum, rows-all}
 use Rattle.builder.specs.Places.{inGroup, inSet, groupStart, setFor, hubFor, pairStart, Stands}
 use Rattle.builder.specs.PlaceLaws.{set-out, set-in, group-out, group-in, pair-group, pair-below, pair-of, start-below, group-within, groups-rise, set-located, sets-all}
 use Rattle.builder.specs.Framed.{Framed, Holds}

@@ -5,12 +5,11 @@ use mathlib.Core.List.{List}
 use mathlib.Core.Logic.{_≢_}
 use mathlib.Core.Bool.{Bool, true, false, cond}
 use lib.Dec.{eqb, leb, ltb}
-use Rattle.kinds.specs.Limits.{noPivot, lastMinute}
+use Rattle.kinds.specs.Limits.{noPivot, lastMinute, unreached}
 use Rattle.journeys.specs.Service.{Service}
 use Rattle.journeys.specs.Journey.{Journey}
 use Rattle.journeys.specs.PairLaws.{Within}
 use Rattle.scan.specs.Events.{InForce}
-use Rattle.scan.specs.Scan.{unreached}
 use Rattle.scan.specs.Ordered.{read}
 use Rattle.scan.specs.Lists.{cellsOf}
 use Rattle.scan.specs.declared.Cell.{Cell}

@@ -1,7 +1,7 @@
 -- Demand 3: supported labels and sketches are journeys (L2), no gap means that nothing is missed (L3), so over accepted tables every best
 -- sketch is the timetable's best. And what refusals 19 and 20 name is a real fault.
 use mathlib.Core.Path.{_≡_, refl, sym, subst, _∙_}
-use mathlib.Core.Logic.{_⊎_, inl, inr, _≢_, _↔_}
+use mathlib.Core.Logic.{_≢_, _↔_}
 use mathlib.Core.Option.{Option, none, some}
 use mathlib.Core.Bool.{true}
 use Prim.Native.Nat.{ℕ, zero, suc, _+_, _≤_, _<_}
@@ -16,7 +16,7 @@ use Rattle.journeys.specs.Service.{Service, RideAt, GoodService}
 use Rattle.journeys.specs.Journey.{Journey, one, more}
 use Rattle.journeys.specs.Criteria.{Best, Answer, Nothing}
 use Rattle.journeys.specs.Tables.{Side, outs, ins, Tables, Entry, LabelAt, of-out, of-in, Label, GoodTables, Sketch, single, joined}
-use Rattle.journeys.specs.Check.{Halves, Supported, SupportedAt, AllSupported, NoGap, NoGapAt, NoGaps, Accepted, UnsupportedFirst, GapFirst}
+use Rattle.journeys.specs.Check.{Halves, Supported, SupportedAt, AllSupported, NoGap, NoGapAt, NoGaps, Accepted}
 use Rattle.journeys.specs.PairLaws.{Within, itself, wider}
 use Rattle.journeys.specs.CriteriaLaws.{best-same, nothing-same, early-best, early-least, early-within}
 use Rattle.journeys.specs.JourneyLaws.{join, journey-later, ride-to}

@@ -1,19 +1,19 @@
 -- The cases A to J hold: by tests that compute, each with the law that a passed test says so.
 use mathlib.Core.Path.{_≡_, refl, sym, ap, subst}
-use mathlib.Core.Logic.{_⊎_, inl, inr, _≢_}
+use mathlib.Core.Logic.{_⊎_, inl, inr}
 use mathlib.Core.Bool.{Bool, true, false, not}
 use mathlib.Core.List.{List, [], _∷_}
 use Prim.Native.Nat.{ℕ, zero, suc, pred, _+_, _-_, _≤_, _<_}
 use native.Mathlib.Nat.{le-refl}
 use native.Mathlib.Omega.{arith}
-use native.Mathlib.Decide.{ℕ-discrete, decLe, decLt}
+use native.Mathlib.Decide.{ℕ-discrete}
 use lib.Dec.{T, leb, ltb, eqb, leb→le, le→leb, eqb→eq, eqb-refl, ltb→lt, T-not, not-T}
 use Rattle.kinds.specs.Limits.{lastMinute}
 use Rattle.journeys.specs.declared.Criterion.{Criterion}
 use Rattle.journeys.specs.declared.Criterion.the-variants.{Early, Late, Short}
 use Rattle.journeys.specs.Service.{Service, RideAt, GoodService}
 use Rattle.journeys.specs.Journey.{Journey, one, more, rides, RidesOf}
-use Rattle.journeys.specs.Criteria.{Fits, Better, Best, Nothing}
+use Rattle.journeys.specs.Criteria.{Best, Nothing}
 use Rattle.journeys.specs.Example.{nth, many, Reply, at, nothing, Case, Says, Holds, casesAtoJ}
 use Rattle.journeys.specs.PairLaws.{Within}
 use Rattle.journeys.specs.JourneyLaws.{journey-later, journey-last}
@@ -47,9 +47,6 @@ and-split false f q = absurd q
 or-split : (b : Bool) (f : Unit {0} → Bool) → T (or-else b f) → T (not b) → T (f tt)
 or-split true f q n = absurd n
 or-split false f q n = q
-
-T-is : (b : Bool) → b ≡ true → T b
-T-is b e = subst T (sym e) tt
 
 is-T : (b : Bool) → T b → b ≡ true
 is-T true t = refl

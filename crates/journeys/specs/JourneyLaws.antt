@@ -1,7 +1,7 @@
 -- Laws of journeys: two that meet are one; they take time; and "between" and "visits" by two journeys that meet at a stop.
 use mathlib.Core.Path.{_≡_, refl, sym, ap, subst}
 use mathlib.Core.Logic.{_⊎_, inl, inr, _≢_, _↔_}
-use mathlib.Core.List.{List, [], _∷_, _++_, List·Memᴰ, List·Memᴰ·head, List·Memᴰ·tail, List·Memᴰ·not-nil, List·Memᴰ·cases-cons}
+use mathlib.Core.List.{[], _∷_, _++_, List·Memᴰ, List·Memᴰ·head, List·Memᴰ·tail, List·Memᴰ·not-nil, List·Memᴰ·cases-cons}
 use Prim.Native.Nat.{ℕ, _≤_, _<_}
 use native.Mathlib.Nat.{le-refl}
 use native.Mathlib.Omega.{arith}
@@ -21,9 +21,6 @@ rides-join (more i r g j) h k = ap (λ l. i ∷ l) (rides-join j h k)
 module _ {S : Service} (G : GoodService S) where
   pub ride-later : {i u v d a : ℕ} → RideAt S i u v d a → d < a
   ride-later {i} r = omega (arith, G .later i (r .below) (r .forced), r .leaves, r .arrives)
-
-  pub ride-apart : {i u v d a : ℕ} → RideAt S i u v d a → u ≢ v
-  ride-apart {i} r e = G .apart i (r .below) (r .forced) (omega (arith, r .goes, r .ends))
 
   pub ride-from : {i u v d a : ℕ} → RideAt S i u v d a → u < S .stops
   ride-from {i} r = omega (arith, G .from-stop i (r .below) (r .forced), r .goes)

@@ -22,9 +22,6 @@ itself {d = d} {a} p = record { dep = d; arr = a; has = p; after = le-refl d; be
 pub wider : {P : ℕ → ℕ → Type 0} {t e t′ e′ : ℕ} → Within P t e → t′ ≤ t → e ≤ e′ → Within P t′ e′
 wider w h k = record { dep = w .dep; arr = w .arr; has = w .has; after = omega (arith, w .after); before = omega (arith, w .before) }
 
-pub of-more : {P Q : ℕ → ℕ → Type 0} {t e : ℕ} → ((d a : ℕ) → P d a → Q d a) → Within P t e → Within Q t e
-of-more f w = record { dep = w .dep; arr = w .arr; has = f (w .dep) (w .arr) (w .has); after = w .after; before = w .before }
-
 -- what lies within an undominated pair is that very pair
 pub same-pair : {P : ℕ → ℕ → Type 0} {d a e b : ℕ} → Undominated P d a → P e b → d ≤ e → b ≤ a → (e ≡ d) × (b ≡ a)
 same-pair {d = d} {a} {e} {b} U j h k = go (decLt d e) (decLt b a)

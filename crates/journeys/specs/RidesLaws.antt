@@ -1,18 +1,17 @@
 -- The rides of a label and of an answer: they are one list at most, they are a journey with exactly the pair, it is decided whether there are
 -- any, and over supported tables there always are.
 use mathlib.Core.Path.{_≡_, refl, sym, ap, ap₂, subst, subst₂, _∙_}
-use mathlib.Core.Logic.{_≢_}
 use mathlib.Core.List.{List, [], _∷_, _++_}
 use mathlib.Core.Option.{Option, none, some}
 use Prim.Native.Nat.{ℕ, zero, suc, _+_, _≤_, _<_}
 use native.Mathlib.Omega.{arith}
 use native.Mathlib.Decide.{ℕ-discrete, decLe, decLt}
 use lib.ListN.{length, length-append}
-use Rattle.loops.specs.Decide.{any-below, dec-then, dec-map, Least, least, least-below, least-one}
+use Rattle.loops.specs.Decide.{dec-then, Least, least, least-one}
 use Rattle.journeys.specs.Service.{Service, RideAt, GoodService}
-use Rattle.journeys.specs.Journey.{Journey, one, more, rides, RidesOf}
-use Rattle.journeys.specs.Tables.{outs, ins, Tables, Entry, of-out, of-in, Label, GoodTables, JoinAt, Sketch, single, joined}
-use Rattle.journeys.specs.Check.{Halves, Supported, AllSupported}
+use Rattle.journeys.specs.Journey.{one, rides, RidesOf}
+use Rattle.journeys.specs.Tables.{Tables, of-out, of-in, Label, GoodTables, JoinAt, Sketch, single, joined}
+use Rattle.journeys.specs.Check.{AllSupported}
 use Rattle.journeys.specs.Rides.{Opens, ride, both, Chosen, by-label, by-hub}
 use Rattle.journeys.specs.JourneyLaws.{join, rides-join}
 use Rattle.journeys.specs.ReachLaws.{dec-ride, dec-some-ride}

@@ -4,7 +4,7 @@ use mathlib.Core.Logic.{_≢_, _↔_}
 use mathlib.Core.Option.{Option, none, some}
 use Rattle.journeys.specs.Service.{Service, RideAt}
 use Rattle.journeys.specs.Journey.{Journey, Visits, Between, Undominated}
-use Rattle.journeys.specs.Tables.{Tables, Side, outs, ins, Entry}
+use Rattle.journeys.specs.Tables.{Tables, outs, ins, Entry}
 
 -- "The pivot is none if some run from u to v has exactly that pair; otherwise it is the highest-ranking stop strictly between the ends on any
 -- journey with that pair."

@@ -4,21 +4,20 @@ use mathlib.Core.Path.{_≡_, refl, sym, ap, subst, subst₂, _∙_}
 use mathlib.Core.Logic.{_⊎_, inl, inr, _≢_, _↔_}
 use mathlib.Core.Option.{Option, none, some}
 use Prim.Native.Nat.{ℕ, min, _≤_, _<_}
-use native.Mathlib.Nat.{le-refl}
 use native.Mathlib.Omega.{arith}
 use native.Mathlib.Decide.{ℕ-discrete, decLt}
-use Rattle.loops.specs.Decide.{Least, least, least-one, dec-not}
+use Rattle.loops.specs.Decide.{Least, least, least-one}
 use Rattle.journeys.specs.declared.Criterion.{Criterion}
 use Rattle.journeys.specs.Service.{Service, RideAt, GoodService}
-use Rattle.journeys.specs.Journey.{Journey, one, more, Between, Visits, Undominated}
+use Rattle.journeys.specs.Journey.{Journey, one, more, Undominated}
 use Rattle.journeys.specs.Criteria.{Best, Nothing}
-use Rattle.journeys.specs.Tables.{Side, outs, ins, Tables, Entry, LabelAt, of-out, of-in, Label, GoodTables, JoinAt, Sketch, single, joined}
+use Rattle.journeys.specs.Tables.{Side, outs, ins, Tables, Entry, of-out, of-in, Label, GoodTables, Sketch, single, joined}
 use Rattle.journeys.specs.Rule.{Pivot, by-run, by-stop, Rule, ByRule}
-use Rattle.journeys.specs.Check.{Halves, Supported, AllSupported, NoGaps, Accepted}
+use Rattle.journeys.specs.Check.{Halves, AllSupported, Accepted}
 use Rattle.journeys.specs.PairLaws.{Within, same-pair}
-use Rattle.journeys.specs.JourneyLaws.{join, journey-later, Via, between-iff, visits-iff, via-first, via-second, not-start, not-end}
+use Rattle.journeys.specs.JourneyLaws.{join, Via, between-iff, visits-iff, via-first, via-second, not-start, not-end}
 use Rattle.journeys.specs.ReachLaws.{refined, dec-undominated, dec-via, lowest-via, dec-some-ride}
-use Rattle.journeys.specs.AcceptedLaws.{label-sound, sketch-sound, NoGapWithin, no-gap-iff, complete, accepted-best, accepted-nothing}
+use Rattle.journeys.specs.AcceptedLaws.{label-sound, sketch-sound, no-gap-iff, complete, accepted-best, accepted-nothing}
 
 -- the pivot is one
 pub pivot-one : {S : Service} {u v d a : ℕ} {p q : Option ℕ} → Pivot S u v d a p → Pivot S u v d a q → p ≡ q

@@ -1,14 +1,13 @@
 -- Laws of good tables and their sketches: bounds, which label is which, and what lies within two minutes is decided.
 use mathlib.Core.Path.{_≡_, refl, sym, ap, _∙_}
-use mathlib.Core.Logic.{_⊎_, inl, inr, _≢_, _↔_}
-use mathlib.Core.Option.{Option, none, some}
-use Prim.Native.Nat.{ℕ, _+_, _≤_, _<_}
-use native.Mathlib.Nat.{le-refl}
+use mathlib.Core.Logic.{_⊎_, inl, inr}
+use mathlib.Core.Option.{Option}
+use Prim.Native.Nat.{ℕ, _≤_, _<_}
 use native.Mathlib.Omega.{arith}
 use native.Mathlib.Decide.{ℕ-discrete, decLe, decLt}
 use Rattle.loops.specs.Decide.{any-below, dec-then, dec-or, dec-map}
 use Rattle.kinds.specs.Limits.{lastMinute}
-use Rattle.journeys.specs.Tables.{Side, outs, ins, Tables, Entry, LabelAt, of-out, of-in, Label, GoodTables, JoinAt, Sketch, single, joined}
+use Rattle.journeys.specs.Tables.{Side, outs, ins, Tables, Entry, of-out, of-in, Label, GoodTables, Sketch, single, joined}
 use Rattle.journeys.specs.PairLaws.{Within}
 
 -- one number, one label
@@ -46,10 +45,6 @@ module _ {T : Tables} (G : GoodTables T) where
   label-last (k, of-out e) = G .last e
   label-last (k, of-in e) = G .last e
 
-  pub label-apart : {u v d a : ℕ} {p : Option ℕ} → Label T u v d a p → u ≢ v
-  label-apart (k, of-out e) q = omega (arith, G .below e)
-  label-apart (k, of-in e) q = omega (arith, G .below e)
-
   pub label-from : {u v d a : ℕ} {p : Option ℕ} → Label T u v d a p → u < T .stops
   label-from (k, of-out e) = e .owner
   label-from (k, of-in e) = omega (arith, G .below e, e .owner)
@@ -81,10 +76,6 @@ module _ {T : Tables} (G : GoodTables T) where
   pub sketch-last : {u v : ℕ} (d a : ℕ) → Sketch T u v d a → a ≤ lastMinute
   sketch-last d a (single p l) = label-last l
   sketch-last d a (joined h J) = G .last (J .in-label)
-
-  pub sketch-from : {u v d a : ℕ} → Sketch T u v d a → u < T .stops
-  sketch-from (single p l) = label-from l
-  sketch-from (joined h J) = J .out-label .owner
 
   pub sketch-to : {u v d a : ℕ} → Sketch T u v d a → v < T .stops
   sketch-to (single p l) = label-to l

@@ -1,22 +1,17 @@
 -- What each constructor of src/lib.rt answers.
 use Prim.Native.Nat.{ℕ}
-use mathlib.Core.Bool.{Bool, true, false, cond}
+use mathlib.Core.Bool.{Bool, false, cond}
 use lib.Dec.{ltb, leb, eqb}
 use Rattle.kinds.specs.Limits.{mostStops, mostRuns, noPivot, lastMinute, mostTrip, mostCode, leastCodeByte, mostCodeByte}
 use Rattle.kinds.specs.Refusals.{stopUnknown, ownStop, outOfRange}
-use Rattle.kinds.specs.declared.Stop.{Stop}
 use Rattle.kinds.specs.declared.StopRead.{StopRead}
 use Rattle.kinds.specs.declared.StopRead.the-variants as stop
-use Rattle.kinds.specs.declared.Minute.{Minute}
 use Rattle.kinds.specs.declared.MinuteRead.{MinuteRead}
 use Rattle.kinds.specs.declared.MinuteRead.the-variants as minute
-use Rattle.kinds.specs.declared.Trip.{Trip}
 use Rattle.kinds.specs.declared.TripRead.{TripRead}
 use Rattle.kinds.specs.declared.TripRead.the-variants as trip
-use Rattle.kinds.specs.declared.Run.{Run}
 use Rattle.kinds.specs.declared.RunRead.{RunRead}
 use Rattle.kinds.specs.declared.RunRead.the-variants as run
-use Rattle.kinds.specs.declared.Label.{Label}
 use Rattle.kinds.specs.declared.LabelRead.{LabelRead}
 use Rattle.kinds.specs.declared.LabelRead.the-variants as label
 

@@ -1,20 +1,19 @@
 -- What the constructors' good answers say, for those who call them.
 use Prim.Native.Nat.{ℕ, _≤_, _<_}
-use mathlib.Core.Path.{_≡_, refl, ap}
+use mathlib.Core.Path.{_≡_, refl}
 use mathlib.Core.Bool.{Bool, true, false, cond}
 use mathlib.Core.Logic.{_⊎_, inl, inr}
 use native.Mathlib.Omega.{arith}
 use lib.Dec.{ltb, leb, eqb}
 use borrow.Author.Tests.{ltb-true, ltb-false, leb-true, leb-false, eqb-true, eqb-false}
 use Rattle.loops.specs.Chain.{past, stays}
-use Rattle.kinds.specs.Limits.{mostStops, mostRuns, noPivot, lastMinute, mostTrip, mostCode}
-use Rattle.kinds.specs.Kinds.{isStopCount, isRunCount, stopOf, minuteOf, runOf, labelOf}
+use Rattle.kinds.specs.Limits.{mostStops, mostRuns, noPivot, lastMinute, mostTrip}
+use Rattle.kinds.specs.Kinds.{isStopCount, isRunCount, stopOf, runOf, labelOf}
 use Rattle.kinds.specs.declared.StopRead.{StopRead}
 use Rattle.kinds.specs.declared.StopRead.the-variants as stop
 use Rattle.kinds.specs.declared.MinuteRead.{MinuteRead}
 use Rattle.kinds.specs.declared.MinuteRead.the-variants as minute
 use Rattle.kinds.specs.declared.Stop.{Stop}
-use Rattle.kinds.specs.declared.Minute.{Minute}
 use Rattle.kinds.specs.declared.Run.{Run}
 use Rattle.kinds.specs.declared.RunRead.{RunRead}
 use Rattle.kinds.specs.declared.RunRead.the-variants as run
@@ -39,13 +38,6 @@ stop-good n count s e =
     let z = stays (ltb n count) e (λ x. let y : _≡_ {A = ℕ} 0 1 = cc in omega arith) in
     let f = z .1 in
     (cc, ltb-true n count (z .0))
-
-pub minute-good : (n : ℕ) (m : Minute) → minuteOf n ≡ minute.Good m → (m .0 ≡ n) × (n ≤ lastMinute)
-unfolding minuteOf
-minute-good n m e =
-    let z = stays (leb n lastMinute) e (λ x. let y : _≡_ {A = ℕ} 0 1 = cc in omega arith) in
-    let f = z .1 in
-    (cc, leb-true n lastMinute (z .0))
 
 -- the five numbers of a good run
 pub record GoodRun (stops from to dep arr trip : ℕ) : Type 0 where

@@ -33,6 +33,10 @@ noPivot = 65535
 abbrev pub lastMinute : ℕ
 lastMinute = 2879
 
+-- in the place of a minute: not reached. Later than every minute
+abbrev pub unreached : ℕ
+unreached = 65535
+
 -- "Trip numbers 1 to 65,535."
 abbrev pub mostTrip : ℕ
 mostTrip = 65535

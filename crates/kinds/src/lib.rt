@@ -2,8 +2,7 @@
 // A limit stands here, under the kind of thing it limits, and in specs/Limits.antt for the definitions;
 // the functions `..most..` and `last` are proved to say both, so that the two cannot drift apart.
 ghost use mathlib.Core.Path.{_≡_};
-ghost use mathlib.Core.List.{[], _∷_};
-ghost use Prim.Native.Nat.{ℕ, _*_, _≤_};
+ghost use Prim.Native.Nat.{_*_, _≤_};
 ghost use Rattle.kinds.specs.Limits.{
   mostStops,
   codesRoom,
@@ -13,10 +12,9 @@ ghost use Rattle.kinds.specs.Limits.{
   mostLabels,
   noPivot,
   lastMinute,
+  unreached,
   mostTrip,
   mostCode,
-  leastCodeByte,
-  mostCodeByte,
   mostText,
   mostInput,
 };
@@ -85,12 +83,21 @@ pub enum MinuteRead {
 
 impl Minute {
     pub const LAST: u16 = 2879;
+    // In the place of a minute: not reached. It is later than every minute, so that the sooner of two is always right.
+    pub const UNREACHED: u16 = 65535;
 
     pub fn last() -> u16
         ensures { λ r. do ⌜ r ≡ (← ⟦Minute::LAST⟧ .entry) ⌝ }
         ensures { λ r. ⌜ r ≡ lastMinute ⌝ }
     {
         Minute::LAST
+    }
+
+    pub fn unreached() -> u16
+        ensures { λ r. do ⌜ r ≡ (← ⟦Minute::UNREACHED⟧ .entry) ⌝ }
+        ensures { λ r. ⌜ r ≡ unreached ⌝ }
+    {
+        Minute::UNREACHED
     }
 
     pub fn new(n: u32) -> MinuteRead

@@ -7,7 +7,6 @@ use reader::ReadAnswer;
 use rides::RidesAnswer;
 use verdict::Verdict;
 ghost use mathlib.Core.Path.{_≡_};
-ghost use Prim.Native.Nat.{ℕ};
 ghost use lib.ListN.{length};
 ghost use Rattle.tables.specs.File.{tablesOf};
 ghost use Rattle.asks.specs.declared.Answer.{Answer};

@@ -60,7 +60,6 @@ pub record HubsTo (b : List ℕ) (u v d a outTo inTo place k : ℕ) : Type 0 whe
   pub high : k ≤ outTo
   pub none : Passed (JoinsAt (tablesOf b) v d a) (tablesOf b .start outs u) k
   pub behind : (j : ℕ) → k ≤ j → j < outTo → Passed (Past (tablesOf b) (tablesOf b .hub j) (Arriving a)) (tablesOf b .start ins v) place
-  pub place-low : tablesOf b .start ins v ≤ place
   pub place-high : place ≤ inTo
 
 joins-at : {T : Tables} {u v d a h : ℕ} (J : JoinAt T u v d a h) → JoinsAt T v d a (J .first)
@@ -93,7 +92,6 @@ module _ {b : List ℕ} {n u v outFrom outTo inFrom inTo : ℕ} (O : SetAt b n o
         high = x .0;
         none = rw (O .start) passed-none;
         behind = λ j h k. rw (I .start) passed-none;
-        place-low = omega (arith, I .start);
         place-high = y .0;
       }
 
@@ -135,7 +133,6 @@ module _ {b : List ℕ} {n u v outFrom outTo inFrom inTo : ℕ} (O : SetAt b n o
         low = whole .passed .low;
         none = λ p x y q. whole .passed .none p x y (past-lower (tablesOf b) (Arriving a) p (good .hubs-rise (out-entry k (H .low) lt) (out-entry j (omega (arith, H .low)) i) (omega arith)) q);
       };
-      place-low = whole .passed .low;
       place-high = F .high;
     }
 

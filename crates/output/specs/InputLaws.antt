@@ -7,13 +7,12 @@ use native.Mathlib.Omega.{arith}
 use lib.ListN.{length, take}
 use lib.Dec.{ltb}
 use borrow.Author.Tests.{lt-ltb, le-ltb, ltb-false}
-use Rattle.loops.specs.Chain.{past}
 use Rattle.kinds.specs.Limits.{mostInput}
 use Rattle.kinds.specs.Refusals.{overLimit}
 use Rattle.reader.specs.declared.Counts.{Counts}
 use Rattle.reader.specs.declared.ReadAnswer.{ReadAnswer}
 use Rattle.reader.specs.declared.ReadAnswer.the-variants.{Read, No}
-use Rattle.reader.specs.Text.{Outcome, whole, bad, readText, answerOf, runsOf, codesOf}
+use Rattle.reader.specs.Text.{Outcome, bad, readText, answerOf, runsOf, codesOf}
 use Rattle.reader.specs.TextLaws.{GoodRead, read-good}
 use Rattle.askline.specs.Input.{timetableEnd}
 use Rattle.kinds.specs.declared.Refusal.{Refusal}
@@ -21,7 +20,7 @@ use Rattle.builder.specs.declared.BuildAnswer.{BuildAnswer}
 use Rattle.builder.specs.declared.BuildAnswer.the-variants as build
 use Rattle.builder.specs.Build.{BuildOf}
 use Rattle.output.specs.declared.Stage.the-variants.{Refused, Asks}
-use Rattle.output.specs.Output.{readInput, StartOf, unread, unbuilt, built}
+use Rattle.output.specs.Output.{readInput, StartOf, unbuilt, built}
 
 module _ (t : List ℕ) (runs codes : ℕ) where
   pub input-long : mostInput < length t → readInput t runs codes ≡ bad overLimit 0

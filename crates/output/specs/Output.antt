@@ -1,6 +1,6 @@
 -- What the program "journey" prints for its input t. No contract can say what a program writes: the contracts of this crate say which bytes come
 -- next (Steps.antt), the program hands them on in this order, and by the laws (OutputLaws.antt) together they are what is said here.
-use Prim.Native.Nat.{ℕ, _+_, _<_}
+use Prim.Native.Nat.{ℕ, _+_}
 use mathlib.Core.Path.{_≡_}
 use mathlib.Core.List.{List, [], _++_}
 use mathlib.Core.Bool.{cond}

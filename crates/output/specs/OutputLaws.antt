@@ -1,33 +1,31 @@
 -- Laws of the output: the program's start leads to it, its steps print it line by line, and it is one.
-use Prim.Native.Nat.{ℕ, zero, suc, _+_, _*_, _≤_, _<_}
+use Prim.Native.Nat.{ℕ, _+_, _*_, _≤_, _<_}
 use mathlib.Core.Path.{_≡_, refl, sym, ap, ap₂, subst, subst₂, _∙_}
 use mathlib.Core.List.{List, [], _∷_, _++_, append-assoc}
 use native.Mathlib.Omega.{arith}
 use lib.ListN.{length, take, replicate, length-append}
 use lib.Seq.{length-take-le}
 use Rattle.kinds.specs.Limits.{runsRoom, codesRoom, lastMinute}
-use Rattle.kinds.specs.declared.Refusal.{Refusal}
 use Rattle.tables.specs.File.{fileRoom}
 use Rattle.tables.specs.OneFile.{AreBytes}
 use Rattle.reader.specs.declared.Counts.{Counts}
 use Rattle.reader.specs.declared.ReadAnswer.the-variants as read
-use Rattle.reader.specs.Text.{answerOf, runsOf, codesOf}
+use Rattle.reader.specs.Text.{runsOf, codesOf}
 use Rattle.reader.specs.TextLaws.{GoodRead}
 use Rattle.builder.specs.declared.BuildAnswer.{BuildAnswer}
 use Rattle.builder.specs.declared.BuildAnswer.the-variants as build
 use Rattle.builder.specs.Build.{buildRoom, BuildOf}
 use Rattle.builder.specs.BuildLaws.{built-within, build-one}
 use Rattle.askline.specs.declared.Piece.the-variants as piece
-use Rattle.askline.specs.Input.{timetableEnd, pieceAt}
+use Rattle.askline.specs.Input.{timetableEnd}
 use Rattle.askline.specs.InputLaws.{timetable-within}
 use Rattle.printed.specs.Printed.{lineRoom}
 use Rattle.answers.specs.Answers.{rideLines}
 use Rattle.answers.specs.AnswersLaws.{printed-one}
-use Rattle.output.specs.Output.{readInput, StartOf, unread, unbuilt, built, Held, heldOf, LinePrints, LinesPrint, none, unfinished, line, TurnPrints, Prints, OutputOf}
+use Rattle.output.specs.Output.{readInput, StartOf, unread, unbuilt, built, Held, LinePrints, LinesPrint, none, unfinished, line, TurnPrints, Prints, OutputOf}
 use Rattle.output.specs.InputLaws.{read-held, input-good}
-use Rattle.output.specs.Steps.{StepOf, Ready, Stands}
+use Rattle.output.specs.Steps.{StepOf, Stands}
 use Rattle.output.specs.StepLaws.{left, mostLines, left-most, few-bytes, step-stands, step-less, step-prints, step-over}
-use Rattle.output.specs.declared.Sizes.{Sizes}
 use Rattle.output.specs.declared.Turn.{Turn}
 use Rattle.output.specs.declared.Stage.{Stage}
 use Rattle.output.specs.declared.Stage.the-variants.{Refused, Asks, Over}

@@ -1,11 +1,10 @@
 -- Laws of a step: where the next one may be made, what is left after it, and that line by line the steps print what is said in Output.antt.
 use Prim.Native.Nat.{ℕ, zero, suc, _+_, _*_, _-_, _≤_, _<_}
 use mathlib.Core.Path.{_≡_, refl, sym, ap, subst, subst₂, _∙_}
-use mathlib.Core.List.{List, [], _∷_, _++_, append-assoc, append-nil}
+use mathlib.Core.List.{List, [], _++_, append-assoc, append-nil}
 use native.Mathlib.Omega.{arith}
-use native.Mathlib.Decide.{ℕ-discrete, decLt}
-use lib.ListN.{length, take, getD, replicate, length-replicate, length-append}
-use Rattle.kinds.specs.Limits.{runsRoom, codesRoom, lastMinute}
+use lib.ListN.{length, take, getD, replicate, length-replicate}
+use Rattle.kinds.specs.Limits.{lastMinute}
 use Rattle.timetable.specs.Numbers.{runAt}
 use Rattle.rides.specs.declared.RidesAnswer.{RidesAnswer}
 use Rattle.ground.specs.Ground.{groundRoom}
@@ -17,7 +16,7 @@ use Rattle.printed.specs.Printed.{lineRoom}
 use Rattle.printed.specs.WroteLaws.{wrote-first, wrote-one}
 use Rattle.answers.specs.Answers.{LineGets, headOf, ridesIn, runLine, rideLines, printedFor}
 use Rattle.answers.specs.AnswersLaws.{gets-one, gets-lent, Ridden, ridden-all}
-use Rattle.output.specs.Output.{Held, heldOf, LinesPrint, none, unfinished, line, TurnPrints, Prints, refusedLine}
+use Rattle.output.specs.Output.{Held, heldOf, LinesPrint, none, unfinished, line, TurnPrints, Prints}
 use Rattle.output.specs.Steps as step
 use Rattle.output.specs.Steps.{Writes, TurnStep, StepOf, mostHeld, Ready, Stands}
 use Rattle.output.specs.declared.Sizes.{Sizes}

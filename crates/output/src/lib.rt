@@ -7,7 +7,7 @@ use kinds::Text;
 use reader::ReadAnswer;
 use rides::RidesAnswer;
 ghost use mathlib.Core.Path.{_≡_};
-ghost use Prim.Native.Nat.{ℕ, _+_, _≤_, _<_};
+ghost use Prim.Native.Nat.{_+_, _≤_, _<_};
 ghost use lib.ListN.{length, take, getD};
 ghost use Rattle.loops.specs.Zero.{zeros};
 ghost use Rattle.timetable.specs.Numbers.{runAt};
@@ -16,10 +16,9 @@ ghost use Rattle.answers.specs.AnswersLaws.{Ridden};
 ghost use Rattle.tables.specs.OneFile.{AreBytes};
 ghost use Rattle.reader.specs.Text.{answerOf, runsOf, codesOf};
 ghost use Rattle.printed.specs.Printed.{lineRoom};
-ghost use Rattle.printed.specs.Wrote.{Wrote};
 ghost use Rattle.askline.specs.declared.Piece.the-variants as piece;
 ghost use Rattle.askline.specs.Input.{pieceAt};
-ghost use Rattle.output.specs.Output.{readInput, StartOf, heldOf, refusedLine};
+ghost use Rattle.output.specs.Output.{readInput, StartOf, heldOf};
 ghost use Rattle.output.specs.Steps.{Writes, TurnStep, StepOf, mostHeld, Ready, Stands};
 
 // How much of each room is in use: stops, runs, bytes of the text and of the tables.

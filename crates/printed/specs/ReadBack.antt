@@ -1,5 +1,5 @@
 -- A number that was printed is read back: words' `numberAt` reads what `decimal` printed, up to the limit of five digits.
-use Prim.Native.Nat.{ℕ, zero, suc, _+_, _*_, _-_, _/_, _%_, _^_, _≤_, _<_}
+use Prim.Native.Nat.{ℕ, zero, suc, _+_, _-_, _/_, _%_, _^_, _≤_, _<_}
 use mathlib.Core.Path.{_≡_, refl, ap, sym, _∙_}
 use mathlib.Core.List.{List, [], _∷_, _++_}
 use mathlib.Core.Bool.{Bool, true, false, cond}
@@ -17,10 +17,9 @@ use Rattle.loops.specs.EveryLaws.{all-of}
 use Rattle.words.specs.Words.{space, digit0, seek, isDigit, isNumber, valueOf, numberAt}
 use Rattle.words.specs.WordsLaws.{seek-here, seek-more, seek-end}
 use Rattle.words.specs.Digits.{zero-value}
-use Rattle.words.specs.declared.NumberRead.{NumberRead}
 use Rattle.words.specs.declared.NumberRead.the-variants.{Good}
 use Rattle.printed.specs.Printed.{digit, decimalIn, decimal}
-use Rattle.printed.specs.DecimalLaws.{in-small, in-more, tenth, tenth-some, decimal-five, decimal-short}
+use Rattle.printed.specs.DecimalLaws.{in-small, in-more, tenth, decimal-five, decimal-short}
 
 -- the bytes xs are the number n in decimal: digits, of this value, with no leading zero except "0" itself
 pub record Decimal (xs : List ℕ) (n : ℕ) : Type 0 where

@@ -2,20 +2,17 @@
 use Prim.Native.Nat.{ℕ, _*_, _-_, _≤_}
 use mathlib.Core.Path.{_≡_, refl, sym, ap, subst, _∙_}
 use mathlib.Core.List.{List, _++_}
-use mathlib.Core.Bool.{true}
 use native.Mathlib.Omega.{arith}
-use lib.Dec.{eqb, leb}
+use lib.Dec.{leb}
 use lib.ListN.{length, take, replicate}
-use lib.Seq.{take-append-seam, take-append-le}
+use lib.Seq.{take-append-seam}
 use borrow.Author.Tests.{eq-eqb, le-leb}
 use Rattle.loops.specs.Chain.{stays}
 use Rattle.loops.specs.Zero.{zeros}
 use Rattle.kinds.specs.Kinds.{isStopCount, isRunCount}
 use Rattle.kinds.specs.Limits.{runNumbers}
 use Rattle.kinds.specs.declared.Refusal.{Refusal}
-use Rattle.journeys.specs.Service.{Service}
 use Rattle.journeys.specs.Check as the
-use Rattle.journeys.specs.Rule.{ByRule}
 use Rattle.journeys.specs.RuleLaws.{by-rule-accepted}
 use Rattle.tables.specs.declared.TablesRead.the-variants as tables
 use Rattle.tables.specs.File.{placeOf, tablesOf}
@@ -35,7 +32,7 @@ use Rattle.builder.specs.declared.BuildAnswer.the-variants as build
 use Rattle.builder.specs.Build.{buildRoom, RuleFile, BuiltOf, over, short, built, BuildOf, refused, good}
 use Rattle.verdict.specs.declared.Verdict.{Verdict}
 use Rattle.verdict.specs.declared.Verdict.the-variants as verdict
-use Rattle.ground.specs.Ground.{groundRoom, judgedBoth}
+use Rattle.ground.specs.Ground.{groundRoom}
 use Rattle.verdict.specs.Verdict.{Checked}
 use Rattle.rides.specs.declared.RidesAnswer.{RidesAnswer}
 use Rattle.rides.specs.declared.RidesAnswer.the-variants as rides

@@ -9,7 +9,6 @@ use Rattle.kinds.specs.Limits.{lastMinute}
 use Rattle.kinds.specs.Refusals.{roomShort, ridesMissing, refusal}
 use Rattle.kinds.specs.declared.Refusal.{Refusal}
 use Rattle.journeys.specs.Service.{Service, GoodService}
-use Rattle.journeys.specs.Journey.{RidesOf}
 use Rattle.journeys.specs.Tables.{Tables, GoodTables}
 use Rattle.journeys.specs.Check.{AllSupported, Accepted}
 use Rattle.journeys.specs.AcceptedLaws.{accepted-best, accepted-nothing}
@@ -22,7 +21,6 @@ use Rattle.asks.specs.declared.Wanted.{Wanted}
 use Rattle.asks.specs.declared.Asked.{Asked}
 use Rattle.asks.specs.declared.AskRead.the-variants as ask
 use Rattle.asks.specs.declared.Answer.the-variants as answer
-use Rattle.asks.specs.Asks.{Answers}
 use Rattle.rides.specs.declared.Listed.{Listed}
 use Rattle.rides.specs.declared.RidesAnswer.{RidesAnswer}
 use Rattle.rides.specs.declared.RidesAnswer.the-variants.{At, No}
@@ -32,14 +30,6 @@ use Rattle.rides.specs.Accepted as truly
 use Rattle.rides.specs.Accepted.{TrulyListed, TrulyRefused, TrulyLists}
 
 module _ {S : Service} {T : Tables} (q : Asked) where
-  -- the rides are a journey with exactly the answered pair
-  pub listed-journey : {before after : List ℕ} {j : Listed} (L : ListedAs S T q before after j) → RidesOf S (q .from) (q .to) (j .dep) (j .arr) (L .rides)
-  listed-journey L = chosen-journey (L .chosen)
-
-  -- the pair is that of the ask without rides
-  pub listed-answers : {before after : List ℕ} {j : Listed} → ListedAs S T q before after j → Answers T (ask.Good q) (answer.At (record { dep = j .dep; arr = j .arr }))
-  listed-answers L = L .best
-
   -- no list of rides passes 2,879
   pub room-enough : GoodTables T → {room : ℕ} {r : Refusal} → lastMinute ≤ room → RefusedAs S T q room r → r ≢ refusal roomShort 0
   room-enough G h (no-journey e n) f = omega (arith, ap (λ (x : Refusal). x .number) (sym e ∙ f))

@@ -3,9 +3,9 @@ use Prim.Native.Nat.{ℕ, _+_, _*_, _≤_, _<_}
 use mathlib.Core.List.{List}
 use lib.ListN.{length, getD}
 use mathlib.Core.Path.{_≡_}
-use Rattle.kinds.specs.Limits.{mostStops, noPivot}
+use Rattle.kinds.specs.Limits.{mostStops, noPivot, unreached}
 use Rattle.scan.specs.Events.{slotOf}
-use Rattle.scan.specs.Scan.{unreached, notBoarded, Kept}
+use Rattle.scan.specs.Scan.{notBoarded, Kept}
 use Rattle.scan.specs.Ordered.{read, Events}
 use Rattle.scan.specs.declared.Cell.{Cell}
 

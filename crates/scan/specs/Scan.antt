@@ -1,17 +1,12 @@
 -- One scan from stop u and minute d: what each event does to what is kept of the stops and of the rides.
-use Prim.Native.Nat.{ℕ, _+_, _*_, _%_, _≤_, _<_, min}
-use mathlib.Core.Path.{_≡_}
-use mathlib.Core.Bool.{Bool, true, false, cond}
+use Prim.Native.Nat.{ℕ, _%_, min}
+use mathlib.Core.Bool.{cond}
 use lib.Dec.{eqb, ltb}
 use Rattle.loops.specs.Fold.{foldTo}
-use Rattle.kinds.specs.Limits.{noPivot}
+use Rattle.kinds.specs.Limits.{noPivot, unreached}
 use Rattle.journeys.specs.Service.{Ride}
 use Rattle.scan.specs.Events.{slotOf}
 use Rattle.scan.specs.declared.Cell.{Cell}
-
--- the minute of a stop that is not reached; later than any minute
-abbrev pub unreached : ℕ
-unreached = 65535
 
 -- what stands for a ride that cannot be boarded, in the place of the lowest stop between; no stop's number, and not `noPivot`, which stands
 -- where nothing is between

@@ -14,7 +14,6 @@ use Rattle.kinds.specs.Limits.{mostLabels}
 use Rattle.kinds.specs.Refusals.{labelBad, refusal}
 use Rattle.kinds.specs.Kinds.{isStopCount}
 use Rattle.kinds.specs.KindsLaws.{stop-count}
-use Rattle.kinds.specs.declared.Refusal.{Refusal}
 use Rattle.tables.specs.declared.TablesRead.{TablesRead}
 use Rattle.tables.specs.declared.TablesRead.the-variants.{Good, No}
 use Rattle.tables.specs.Format.{formatMark, headerBytes, entryBytes}

@@ -7,18 +7,15 @@ use mathlib.Core.Logic.{_⊎_, inl, inr, ⊎-elim}
 use native.Mathlib.Omega.{arith}
 use native.Mathlib.Nat.{eq-or-lt-of-le}
 use native.Mathlib.Decide.{ℕ-discrete, decLt}
-use lib.ListN.{length, getD}
 use lib.Dec.{eqb}
 use borrow.Author.Tests.{eq-eqb, ne-eqb, eqb-false}
 use Rattle.loops.specs.Chain.{past}
-use Rattle.loops.specs.Filled.{filled}
-use Rattle.loops.specs.FilledLaws.{filled-at}
 use Rattle.kinds.specs.Limits.{noPivot}
 use Rattle.kinds.specs.KindsLaws.{GoodPivot}
 use Rattle.kinds.specs.declared.Label.{Label}
 use Rattle.journeys.specs.Tables.{Side, outs, ins, Tables, Entry, GoodTables}
 use Rattle.tables.specs.File.{stopsOf, setOf, ownerOf, countOf, startOf, endOf, labelsOf, labelAt, pivotOf, tablesOf}
-use Rattle.tables.specs.FileLaws.{start-more, end-within, set-within, located}
+use Rattle.tables.specs.FileLaws.{end-within, set-within}
 use Rattle.tables.specs.Good.{After, higher, later, LabelGood, GoodFile}
 use Rattle.tables.specs.GoodLaws.{after-trans}
 
@@ -99,14 +96,6 @@ module _ {b : List ℕ} {n : ℕ} (g : GoodFile b n) where
   entry-read side s k lt low high =
       record { owner = omega (arith, g .room .contents .stops); low = low; high = high; hub = refl; dep = refl; arr = refl; pivot = refl }
 
-  -- each label stands between the bounds of a set
-  pub entry-located : (k : ℕ) → k < labelsOf b → (side : Side) × (s : ℕ) × (s < n) × (tablesOf b .start side s ≤ k) × (k < tablesOf b .end side s)
-  unfolding tablesOf
-  entry-located k lt =
-      let z = located b (2 * stopsOf b) k lt in
-      let c = set-cases (z .0) n (omega (arith, z .1, g .room .contents .stops)) in
-      (c .0, c .1, c .2, subst (λ (x : ℕ). startOf b x ≤ k) (sym (c .3)) (z .2), subst (λ (x : ℕ). k < endOf b x) (sym (c .3)) (z .3))
-
   -- and of one set only
   pub entry-one : {side side′ : Side} {k s h d a s′ h′ d′ a′ : ℕ} {p p′ : Option ℕ} → Entry (tablesOf b) side k s h d a p → Entry (tablesOf b) side′ k s′ h′ d′ a′ p′ →
       (side ≡ side′) × (s ≡ s′)
@@ -185,14 +174,3 @@ module _ {b : List ℕ} {n : ℕ} (g : GoodFile b n) where
       arrs : {m l : Label} → After m l → m .hub ≡ l .hub → m .arr < l .arr
       arrs (higher h) e = absurd (omega arith)
       arrs (later e h k) f = k
-
--- ---- a list with the starts of all sets, as `starts` writes it: where a set begins, and where it ends
-
-module _ (b : List ℕ) (n : ℕ) (room : List ℕ) (long : 2 * n + 1 ≤ length room) (side : Side) (s : ℕ) (lt : s < n) where
-  pub starts-start : getD (filled (startOf b) (2 * n + 1) room) (setOf side s) 0 ≡ tablesOf b .start side s
-  unfolding tablesOf
-  starts-start = filled-at (startOf b) (2 * n + 1) room (setOf side s) (omega (arith, set-below side s n lt)) long
-
-  pub starts-end : getD (filled (startOf b) (2 * n + 1) room) (setOf side s + 1) 0 ≡ tablesOf b .end side s
-  unfolding tablesOf
-  starts-end = filled-at (startOf b) (2 * n + 1) room (setOf side s + 1) (omega (arith, set-below side s n lt)) long ∙ start-more b (setOf side s)

@@ -7,12 +7,10 @@ use native.Mathlib.Omega.{arith}
 use lib.ListN.{length, getD, set, length-set}
 use lib.Seq.{getD-set-same, getD-set-other}
 use borrow.Author.Tests.{eq-eqb, ne-eqb}
-use Rattle.kinds.specs.Limits.{noPivot, mostStops}
-use Rattle.kinds.specs.KindsLaws.{GoodPivot}
+use Rattle.kinds.specs.Limits.{noPivot}
 use Rattle.kinds.specs.declared.Label.{Label}
 use Rattle.tables.specs.Format.{formatMark, headerBytes, noPivotByte}
 use Rattle.tables.specs.File.{twoAt, stopsOf, countOf, startOf, placeOf, pivotRead, labelAt}
-use Rattle.tables.specs.Good.{LabelGood}
 use Rattle.tables.specs.Write.{putTwo, putHeader, putCount, pivotByte, putLabel}
 
 -- c is b but for the bytes from lo up to, not including, hi
@@ -58,9 +56,6 @@ label-same b c k e f =
 module _ {b c : List ℕ} {lo hi : ℕ} (o : Outside b c lo hi) where
   pub count-before : (s : ℕ) → headerBytes + 2 * s + 2 ≤ lo → countOf c s ≡ countOf b s
   count-before s le = omega (arith, o .before (headerBytes + 2 * s) (omega arith), o .before (headerBytes + 2 * s + 1) (omega arith))
-
-  pub count-behind : (s : ℕ) → hi ≤ headerBytes + 2 * s → countOf c s ≡ countOf b s
-  count-behind s le = omega (arith, o .behind (headerBytes + 2 * s) (omega arith), o .behind (headerBytes + 2 * s + 1) (omega arith))
 
   pub label-before : (k : ℕ) → placeOf (stopsOf b) (k + 1) ≤ lo → labelAt c k ≡ labelAt b k
   label-before k le = label-same b c k (o .before 1 (omega arith)) (λ j le′ lt. o .before j (omega arith))
@@ -197,14 +192,6 @@ module _ (b : List ℕ) (n k : ℕ) (l : Label) where
     where
       hub : (h : ℕ) → h < 256 → h % 256 ≡ h
       hub h lt = omega arith
-
--- good labels can be written
-pub good-writable : {n owner : ℕ} {l : Label} → n ≤ mostStops → owner < n → LabelGood n owner l → Writable l
-good-writable {n} {owner} {l} few lt g = record { hub = omega (arith, g .low); pivot = go (g .pivoted) }
-  where
-    go : (l .pivot ≡ noPivot) ⊎ GoodPivot n owner (l .hub) (l .pivot) → (l .pivot ≡ noPivot) ⊎ (l .pivot < noPivotByte)
-    go (inl e) = inl e
-    go (inr q) = inr (omega (arith, q .below))
 
 -- sets whose counts are the same begin at the same labels
 pub start-same : (b c : List ℕ) (m : ℕ) → ((s : ℕ) → s < m → countOf c s ≡ countOf b s) → startOf c m ≡ startOf b m

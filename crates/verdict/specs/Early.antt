@@ -3,12 +3,9 @@ use Prim.Native.Nat.{ℕ, _≤_, _<_}
 use mathlib.Core.Path.{_≡_}
 use mathlib.Core.Logic.{_⊎_, _≢_}
 use mathlib.Core.Option.{Option}
+use Rattle.kinds.specs.Limits.{unreached}
 use Rattle.journeys.specs.Tables.{Tables, outs, ins, Entry, Sketch}
 use Rattle.journeys.specs.PairLaws.{Within}
-
--- the mark of what is not reached, past every minute
-abbrev pub unreached : ℕ
-unreached = 65535
 
 -- some out-label of u with hub h leaves at or after d and arrives at e
 pub record OutBy (T : Tables) (u h d e : ℕ) : Type 0 where

@@ -5,13 +5,13 @@ use mathlib.Core.Logic.{_⊎_, inl, inr, _≢_, _↔_}
 use native.Mathlib.Omega.{arith}
 use native.Mathlib.Nat.{le-refl}
 use native.Mathlib.Decide.{ℕ-discrete, decLt}
-use Rattle.kinds.specs.Limits.{lastMinute}
+use Rattle.kinds.specs.Limits.{lastMinute, unreached}
 use Rattle.journeys.specs.Tables.{Tables, outs, ins, Entry, of-out, of-in, GoodTables, Sketch, single, joined}
 use Rattle.journeys.specs.Check.{NoGap}
 use Rattle.journeys.specs.PairLaws.{Within, wider}
 use Rattle.journeys.specs.SketchLaws.{sketch-last}
 use Rattle.journeys.specs.AcceptedLaws.{no-gap-iff}
-use Rattle.verdict.specs.Early.{unreached, Reached, InBy, Arrival, Early}
+use Rattle.verdict.specs.Early.{Reached, InBy, Arrival, Early}
 
 module _ {T : Tables} (G : GoodTables T) {u v d e : ℕ} {R : ℕ → ℕ} (other : v ≢ u) (stop : v < T .stops)
     (r : Reached T u d (T .end outs u) R) (a : Arrival T R v (T .end ins v) e) where

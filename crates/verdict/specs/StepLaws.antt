@@ -12,14 +12,14 @@ use lib.ListN.{length, getD, set, replicate, length-set, length-replicate, getD-
 use lib.Seq.{getD-set-same, getD-set-other}
 use lib.Dec.{ltb, leb}
 use borrow.Author.Tests.{ltb-true, ltb-false, leb-true, leb-false}
-use Rattle.kinds.specs.Limits.{mostStops}
+use Rattle.kinds.specs.Limits.{mostStops, unreached}
 use Rattle.kinds.specs.declared.Label.{Label}
 use Rattle.journeys.specs.Tables.{Side, Tables, outs, ins, Entry, GoodTables}
 use Rattle.journeys.specs.SketchLaws.{entry-at, one-entry}
 use Rattle.tables.specs.File.{tablesOf, labelAt}
 use Rattle.tables.specs.Good.{GoodFile}
 use Rattle.tables.specs.TablesLaws.{Says, says, tables-stops, good-tables}
-use Rattle.verdict.specs.Early.{unreached, OutBy, Reached, Arrival}
+use Rattle.verdict.specs.Early.{OutBy, Reached, Arrival}
 use Rattle.verdict.specs.Steps.{relaxed, soonerOf, fresh}
 
 -- ---- a label of a set, as it was read

@@ -4,9 +4,8 @@ use mathlib.Core.List.{List}
 use mathlib.Core.Bool.{cond}
 use lib.ListN.{getD, set, replicate}
 use lib.Dec.{ltb, leb}
-use Rattle.kinds.specs.Limits.{mostStops}
+use Rattle.kinds.specs.Limits.{mostStops, unreached}
 use Rattle.kinds.specs.declared.Label.{Label}
-use Rattle.verdict.specs.Early.{unreached}
 
 -- an out-label l of a stop that one leaves at d
 unfoldable pub relaxed : List ℕ → ℕ → Label → List ℕ

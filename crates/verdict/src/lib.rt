@@ -1,5 +1,6 @@
 // The check of tables from anywhere against a timetable's numbers.
 use kinds::Label;
+use kinds::Minute;
 use kinds::Refusal;
 use kinds::Run;
 use kinds::Stop;
@@ -37,9 +38,6 @@ struct Both {
     far: u16,
 }
 
-// A minute past all others: not reached.
-const UNREACHED: u16 = 65535;
-
 // One out-label more: it counts where it leaves at or after d, and the sooner arrival stays.
 fn relax(reached: &mut [u16; Stop::MOST], d: u16, l: Label)
     requires { ⌜ l .hub < mostStops ⌝ }
@@ -62,7 +60,7 @@ fn reach(tables: &[u8], n: u16, starts: &[u16], u: u16, d: u16) -> [u16; Stop::M
     ensures { λ r. ⌜ Reached (tablesOf (now (tables .entry))) u d (tablesOf (now (tables .entry)) .end outs u) (λ h. getD r h 0) ⌝ }
 {
     let at = u as usize;
-    let mut reached = [UNREACHED; Stop::MOST];
+    let mut reached = [Minute::UNREACHED; Stop::MOST];
     reached[at] = d;
     let end = ground::start_at(starts, 2 * at + 1);
     let mut k = ground::start_at(starts, 2 * at);

@@ -1,17 +1,16 @@
 -- Laws of the words: the turns of the loops.
 use Prim.Native.Nat.{ℕ, zero, suc, _+_, _-_, _≤_, _<_}
-use mathlib.Core.Path.{_≡_, refl, ap, _∙_}
+use mathlib.Core.Path.{_≡_, ap}
 use mathlib.Core.List.{List}
 use mathlib.Core.Bool.{Bool, true, false, cond}
 use native.Mathlib.Omega.{arith}
 use lib.ListN.{length, getD}
-use lib.Dec.{ltb, leb, eqb}
+use lib.Dec.{ltb, eqb}
 use borrow.Author.Tests.{eq-eqb, ne-eqb, ltb-false}
 use Rattle.loops.specs.Chain.{past}
 use Rattle.kinds.specs.Refusals.{lineShape}
 use Rattle.words.specs.Words.{space, seekIn, seek, beginsB, isNumber, numberAt}
-use Rattle.words.specs.declared.NumberRead.{NumberRead}
-use Rattle.words.specs.declared.NumberRead.the-variants.{Good, Bad}
+use Rattle.words.specs.declared.NumberRead.the-variants.{Bad}
 
 module _ (x : ℕ) (s : List ℕ) (k e : ℕ) where
   seek-turn : k < e → seek x s k e ≡ cond (eqb (getD s k 0) x) k (seek x s (k + 1) e)

@@ -3,7 +3,7 @@
 use kinds::Code;
 use kinds::Refusal;
 ghost use mathlib.Core.Path.{_≡_};
-ghost use Prim.Native.Nat.{ℕ, _+_, _≤_};
+ghost use Prim.Native.Nat.{_+_, _≤_};
 ghost use lib.ListN.{length};
 ghost use Rattle.loops.specs.Every.{sameB};
 ghost use Rattle.words.specs.Words.{Sought, beginsB, isWordB, numberAt, isCode};

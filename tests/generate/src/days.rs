@@ -244,6 +244,18 @@ pub fn many_ties(rng: &mut Rng) -> Day {
     random(rng, Shape { stops: 12, runs: 4_096, first: 0, last: 120, longest: 5 })
 }
 
+/// 4,096 runs that all leave at one minute, from and to any of 255 stops.
+pub fn one_minute(rng: &mut Rng) -> Day {
+    let runs = (0..4_096u32)
+        .map(|i| {
+            let from = rng.below(255);
+            let to = (from + rng.between(1, 254)) % 255;
+            [from, to, 600, 600 + rng.between(1, 90), 1 + i]
+        })
+        .collect();
+    Day { stops: 255, runs }
+}
+
 /// 4,096 runs of one minute each, all of them from 0 to 1 and back again, so
 /// that a journey can pass a stop thousands of times.
 pub fn shuttle() -> Day {

@@ -530,7 +530,8 @@ pub fn stored_programs() -> Vec<(String, Program)> {
         let path = entry.unwrap().path();
         if path.extension().is_some_and(|e| e == "in") {
             let name = path.file_stem().unwrap().to_string_lossy().into_owned();
-            let output = std::fs::read(path.with_extension("out")).expect("an output for each input");
+            let output =
+                std::fs::read(path.with_extension("out")).expect("an output for each input");
             all.push((name, Program { input: std::fs::read(&path).unwrap(), output }));
         }
     }

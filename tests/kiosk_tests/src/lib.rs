@@ -3,6 +3,9 @@
 #[cfg(feature = "journey")]
 pub mod program;
 
+#[allow(unused_imports)]
+use suite::{Ask, Kind, Numbers};
+
 /// The static library `target/staticlib/libkiosk.a`.
 pub struct Library;
 
@@ -18,15 +21,8 @@ impl suite::Builds for Library {
     fn build_room() -> usize {
         kiosk::build_room()
     }
-    fn build(
-        stops: u32,
-        run_count: u32,
-        runs: &[u32],
-        tables: &mut [u8],
-        work: &mut [u16],
-        answer: &mut [u32; 4],
-    ) {
-        kiosk::four::build(kiosk::Numbers { stops, run_count, runs }, tables, work, answer);
+    fn build(given: Numbers, tables: &mut [u8], work: &mut [u16], answer: &mut [u32; 4]) {
+        kiosk::four::build(numbers(given), tables, work, answer);
     }
 }
 
@@ -35,28 +31,15 @@ impl suite::Checks for Library {
     fn check_room() -> usize {
         kiosk::check_room()
     }
-    fn check(
-        tables: &[u8],
-        stops: u32,
-        run_count: u32,
-        runs: &[u32],
-        work: &mut [u16],
-        answer: &mut [u32; 4],
-    ) {
-        kiosk::four::check(tables, kiosk::Numbers { stops, run_count, runs }, work, answer);
+    fn check(tables: &[u8], given: Numbers, work: &mut [u16], answer: &mut [u32; 4]) {
+        kiosk::four::check(tables, numbers(given), work, answer);
     }
 }
 
 #[cfg(feature = "asks")]
 impl suite::Asks for Library {
-    fn early(tables: &[u8], from: u32, to: u32, t: u32, answer: &mut [u32; 4]) {
-        kiosk::four::ask(tables, from, to, kiosk::Ask::Early { t }, answer);
-    }
-    fn late(tables: &[u8], from: u32, to: u32, t: u32, answer: &mut [u32; 4]) {
-        kiosk::four::ask(tables, from, to, kiosk::Ask::Late { t }, answer);
-    }
-    fn short(tables: &[u8], from: u32, to: u32, t: u32, t2: u32, answer: &mut [u32; 4]) {
-        kiosk::four::ask(tables, from, to, kiosk::Ask::Short { t, t2 }, answer);
+    fn ask(tables: &[u8], ask: Ask, answer: &mut [u32; 4]) {
+        kiosk::four::ask(tables, ask.from, ask.to, asked(ask), answer);
     }
 }
 
@@ -65,51 +48,29 @@ impl suite::Rides for Library {
     fn rides_room() -> usize {
         kiosk::rides_room()
     }
-    fn early_rides(
+    fn ask_rides(
         tables: &[u8],
-        stops: u32,
-        run_count: u32,
-        runs: &[u32],
-        from: u32,
-        to: u32,
-        t: u32,
+        given: Numbers,
+        ask: Ask,
         list: &mut [u32],
         work: &mut [u16],
         answer: &mut [u32; 4],
     ) {
-        let (numbers, ask) = (kiosk::Numbers { stops, run_count, runs }, kiosk::Ask::Early { t });
-        kiosk::four::ask_rides(tables, numbers, from, to, ask, list, work, answer);
+        let Ask { from, to, .. } = ask;
+        kiosk::four::ask_rides(tables, numbers(given), from, to, asked(ask), list, work, answer);
     }
-    fn late_rides(
-        tables: &[u8],
-        stops: u32,
-        run_count: u32,
-        runs: &[u32],
-        from: u32,
-        to: u32,
-        t: u32,
-        list: &mut [u32],
-        work: &mut [u16],
-        answer: &mut [u32; 4],
-    ) {
-        let (numbers, ask) = (kiosk::Numbers { stops, run_count, runs }, kiosk::Ask::Late { t });
-        kiosk::four::ask_rides(tables, numbers, from, to, ask, list, work, answer);
-    }
-    fn short_rides(
-        tables: &[u8],
-        stops: u32,
-        run_count: u32,
-        runs: &[u32],
-        from: u32,
-        to: u32,
-        t: u32,
-        t2: u32,
-        list: &mut [u32],
-        work: &mut [u16],
-        answer: &mut [u32; 4],
-    ) {
-        let numbers = kiosk::Numbers { stops, run_count, runs };
-        let ask = kiosk::Ask::Short { t, t2 };
-        kiosk::four::ask_rides(tables, numbers, from, to, ask, list, work, answer);
+}
+
+#[cfg(any(feature = "build", feature = "check", feature = "rides"))]
+fn numbers(given: Numbers) -> kiosk::Numbers {
+    kiosk::Numbers { stops: given.stops, run_count: given.run_count, runs: given.runs }
+}
+
+#[cfg(any(feature = "asks", feature = "rides"))]
+fn asked(ask: Ask) -> kiosk::Ask {
+    match ask.kind {
+        Kind::Early => kiosk::Ask::Early { t: ask.t },
+        Kind::Late => kiosk::Ask::Late { t: ask.t },
+        Kind::Short => kiosk::Ask::Short { t: ask.t, t2: ask.t2 },
     }
 }

@@ -122,17 +122,7 @@ pub fn any_small_day<S: Builds>() {
 pub fn damaged_numbers<S: Builds>() {
     each_seed("build::damaged_numbers", 6_000, |rng| {
         let day = days::ties(rng);
-        let mut given = Given::new(&days::damaged(rng, &day));
-        match rng.below(8) {
-            0 => given.stops = rng.pick(&days::STOP_COUNTS),
-            1 => given.run_count = rng.pick(&days::RUN_COUNTS),
-            2 => {
-                let len = rng.below(given.runs.len() as u32 + 1) as usize;
-                given.runs.truncate(len);
-            }
-            3 => given.runs.extend([0, u32::MAX, 300, 3, 2, 1]),
-            _ => {}
-        }
+        let given = Given::damaged(rng, &day);
         build::<S>(&given, 2_000, S::build_room());
     });
 }

@@ -3,7 +3,8 @@
 use crate::lent::Lent;
 use crate::{count_call, Asks, Builds, Checks, Program, Reads, Rides};
 use generate::asks::{Ask, Kind};
-use generate::days::Day;
+use generate::days::{self, Day};
+use generate::{example, Rng};
 use oracle::calls::{self as right, Numbers, Room};
 use oracle::journeys;
 
@@ -18,6 +19,49 @@ pub struct Given {
 impl Given {
     pub fn new(day: &Day) -> Given {
         Given { stops: day.stops, run_count: day.run_count(), runs: day.numbers() }
+    }
+
+    /// A day's numbers with some of them damaged, or the counts or the list.
+    pub fn damaged(rng: &mut Rng, day: &Day) -> Given {
+        let mut given = Given::new(&days::damaged(rng, day));
+        match rng.below(8) {
+            0 => given.stops = rng.pick(&days::STOP_COUNTS),
+            1 => given.run_count = rng.pick(&days::RUN_COUNTS),
+            2 => {
+                let len = rng.below(given.runs.len() as u32 + 1) as usize;
+                given.runs.truncate(len);
+            }
+            3 => given.runs.extend([0, u32::MAX, 300, 3, 2, 1]),
+            _ => {}
+        }
+        given
+    }
+
+    /// T's numbers, and T's numbers with one fault each: those that are refused
+    /// by themselves, and those that only do not go with T's tables.
+    pub fn with_each_fault() -> Vec<Given> {
+        let faults: [fn(&mut Given); 14] = [
+            |_| {},
+            |g| g.stops = 0,
+            |g| g.stops = 256,
+            |g| g.run_count = 4_097,
+            |g| g.runs.truncate(29),
+            |g| g.runs[25] = 4,
+            |g| g.runs[26] = 4,
+            |g| g.runs[26] = 0,
+            |g| g.runs[27] = 2_880,
+            |g| g.runs[29] = 0,
+            |g| g.stops = 5,
+            |g| g.stops = 255,
+            |g| g.run_count = 5,
+            |g| g.run_count = 0,
+        ];
+        let faulty = |fault: fn(&mut Given)| {
+            let mut given = Given::new(&example::day());
+            fault(&mut given);
+            given
+        };
+        faults.into_iter().map(faulty).collect()
     }
 
     fn numbers(&self) -> Numbers<'_> {
@@ -86,14 +130,7 @@ pub fn build_expecting<S: Builds>(
     count_call();
     let (mut tables, mut work) = (Lent::new(right_tables.len()), Lent::new(room));
     let mut answer = Lent::new(4);
-    S::build(
-        given.stops,
-        given.run_count,
-        &given.runs,
-        tables.part(),
-        work.part(),
-        four(&mut answer),
-    );
+    S::build(given.numbers(), tables.part(), work.part(), four(&mut answer));
     let context =
         || format!("build of {}; tables {}, room {room}", given.shown(), right_tables.len());
     answer.must_hold("answer", &right_answer, &context);
@@ -107,7 +144,7 @@ pub fn check<S: Checks>(tables: &[u8], given: &Given, room: usize) -> [u32; 4] {
     count_call();
     let mut work = Lent::new(room);
     let mut answer = Lent::new(4);
-    S::check(tables, given.stops, given.run_count, &given.runs, work.part(), four(&mut answer));
+    S::check(tables, given.numbers(), work.part(), four(&mut answer));
     let right = right::check(tables, given.numbers(), Room { lent: room, needs: S::check_room() });
     let context = || format!("check of {}; {}; room {room}", shown_bytes(tables), given.shown());
     answer.must_hold("answer", &right, &context);
@@ -119,12 +156,7 @@ pub fn check<S: Checks>(tables: &[u8], given: &Given, room: usize) -> [u32; 4] {
 pub fn ask<S: Asks>(tables: &[u8], ask: Ask) -> [u32; 4] {
     count_call();
     let mut answer = Lent::new(4);
-    let four = four(&mut answer);
-    match ask.kind {
-        Kind::Early => S::early(tables, ask.from, ask.to, ask.t, four),
-        Kind::Late => S::late(tables, ask.from, ask.to, ask.t, four),
-        Kind::Short => S::short(tables, ask.from, ask.to, ask.t, ask.t2, four),
-    }
+    S::ask(tables, ask, four(&mut answer));
     let right = right::ask(tables, ask_of(ask), ask.from, ask.to);
     let context = || format!("{ask:?} of {}", shown_bytes(tables));
     answer.must_hold("answer", &right, &context);
@@ -142,17 +174,10 @@ pub fn ask_rides<S: Rides>(
     count_call();
     let (mut list, mut work) = (Lent::new(list_len), Lent::new(room));
     let mut answer = Lent::new(4);
-    let (a, n, r) = (given.stops, given.run_count, &given.runs[..]);
-    let Ask { from, to, t, t2, .. } = ask;
-    let (l, w, four) = (list.part(), work.part(), four(&mut answer));
-    match ask.kind {
-        Kind::Early => S::early_rides(tables, a, n, r, from, to, t, l, w, four),
-        Kind::Late => S::late_rides(tables, a, n, r, from, to, t, l, w, four),
-        Kind::Short => S::short_rides(tables, a, n, r, from, to, t, t2, l, w, four),
-    }
+    S::ask_rides(tables, given.numbers(), ask, list.part(), work.part(), four(&mut answer));
     let room_of = Room { lent: room, needs: S::rides_room() };
     let (right_answer, right_list) =
-        right::ask_rides(tables, given.numbers(), ask_of(ask), from, to, list_len, room_of);
+        right::ask_rides(tables, given.numbers(), ask_of(ask), ask.from, ask.to, list_len, room_of);
     let context = || {
         format!(
             "{ask:?} with rides of {}; {}; list {list_len}, room {room}",

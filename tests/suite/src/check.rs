@@ -85,24 +85,7 @@ pub fn order_of_refusals<S: Checks>() {
     eleven[18] = 1;
     let unsupported = Sets::from_bytes(&t).without(5).bytes();
     let gap = Sets::from_bytes(&t).without(3).bytes();
-    let good = Given::new(&example::day());
-    let with = |change: &dyn Fn(&mut Given)| {
-        let mut given = good.clone();
-        change(&mut given);
-        given
-    };
-    let givens = [
-        good.clone(),
-        with(&|g| g.stops = 0),
-        with(&|g| g.run_count = 4_097),
-        with(&|g| g.runs.truncate(29)),
-        with(&|g| g.runs[25] = 4),
-        with(&|g| g.runs[26] = 0),
-        with(&|g| g.runs[27] = 2_880),
-        with(&|g| g.stops = 5),
-        with(&|g| g.stops = 255),
-        with(&|g| g.run_count = 0),
-    ];
+    let givens = Given::with_each_fault();
     let needs = S::check_room();
     let tables: [&[u8]; 9] =
         [&t, &[], &[1], &[1, 0, 0], &t[..17], &t[..53], &eleven, &unsupported, &gap];
@@ -236,17 +219,7 @@ pub fn damaged_numbers<S: Checks>() {
     each_seed("check::damaged_numbers", 4_000, |rng| {
         let day = days::ties(rng);
         let sets = own(&day).unwrap();
-        let mut given = Given::new(&days::damaged(rng, &day));
-        match rng.below(8) {
-            0 => given.stops = rng.pick(&days::STOP_COUNTS),
-            1 => given.run_count = rng.pick(&days::RUN_COUNTS),
-            2 => {
-                let len = rng.below(given.runs.len() as u32 + 1) as usize;
-                given.runs.truncate(len);
-            }
-            3 => given.runs.extend([0, u32::MAX, 300, 3, 2, 1]),
-            _ => {}
-        }
+        let given = Given::damaged(rng, &day);
         check::<S>(&sets.bytes(), &given, S::check_room());
     });
 }

@@ -19,6 +19,8 @@ pub mod read;
 pub mod rides;
 pub mod room;
 
+pub use generate::asks::{Ask, Kind};
+pub use oracle::calls::Numbers;
 use std::cell::Cell;
 
 /// Reads timetable texts.
@@ -30,73 +32,27 @@ pub trait Reads {
 pub trait Builds {
     /// How many numbers of working room a call needs.
     fn build_room() -> usize;
-    fn build(
-        stops: u32,
-        run_count: u32,
-        runs: &[u32],
-        tables: &mut [u8],
-        work: &mut [u16],
-        answer: &mut [u32; 4],
-    );
+    fn build(numbers: Numbers, tables: &mut [u8], work: &mut [u16], answer: &mut [u32; 4]);
 }
 
 /// Checks tables against timetable numbers.
 pub trait Checks {
     fn check_room() -> usize;
-    fn check(
-        tables: &[u8],
-        stops: u32,
-        run_count: u32,
-        runs: &[u32],
-        work: &mut [u16],
-        answer: &mut [u32; 4],
-    );
+    fn check(tables: &[u8], numbers: Numbers, work: &mut [u16], answer: &mut [u32; 4]);
 }
 
 /// Asks tables.
 pub trait Asks {
-    fn early(tables: &[u8], from: u32, to: u32, t: u32, answer: &mut [u32; 4]);
-    fn late(tables: &[u8], from: u32, to: u32, t: u32, answer: &mut [u32; 4]);
-    fn short(tables: &[u8], from: u32, to: u32, t: u32, t2: u32, answer: &mut [u32; 4]);
+    fn ask(tables: &[u8], ask: Ask, answer: &mut [u32; 4]);
 }
 
 /// Asks tables and lists the rides.
-#[allow(clippy::too_many_arguments)]
 pub trait Rides {
     fn rides_room() -> usize;
-    fn early_rides(
+    fn ask_rides(
         tables: &[u8],
-        stops: u32,
-        run_count: u32,
-        runs: &[u32],
-        from: u32,
-        to: u32,
-        t: u32,
-        list: &mut [u32],
-        work: &mut [u16],
-        answer: &mut [u32; 4],
-    );
-    fn late_rides(
-        tables: &[u8],
-        stops: u32,
-        run_count: u32,
-        runs: &[u32],
-        from: u32,
-        to: u32,
-        t: u32,
-        list: &mut [u32],
-        work: &mut [u16],
-        answer: &mut [u32; 4],
-    );
-    fn short_rides(
-        tables: &[u8],
-        stops: u32,
-        run_count: u32,
-        runs: &[u32],
-        from: u32,
-        to: u32,
-        t: u32,
-        t2: u32,
+        numbers: Numbers,
+        ask: Ask,
         list: &mut [u32],
         work: &mut [u16],
         answer: &mut [u32; 4],

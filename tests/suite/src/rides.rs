@@ -110,23 +110,7 @@ pub fn order_of_refusals<S: Rides>() {
     eleven[18] = 1;
     // Label 1, HUB to MOOR, opens into label 5: without it 18.
     let missing = Sets::from_bytes(&t).without(5).bytes();
-    let good = Given::new(&example::day());
-    let with = |change: &dyn Fn(&mut Given)| {
-        let mut given = good.clone();
-        change(&mut given);
-        given
-    };
-    let givens = [
-        good.clone(),
-        with(&|g| g.stops = 256),
-        with(&|g| g.runs.truncate(29)),
-        with(&|g| g.runs[26] = 4),
-        with(&|g| g.runs[26] = 0),
-        with(&|g| g.runs[29] = 0),
-        with(&|g| g.stops = 5),
-        with(&|g| g.run_count = 5),
-        with(&|g| g.run_count = 0),
-    ];
+    let givens = Given::with_each_fault();
     let needs = S::rides_room();
     let tables: [&[u8]; 6] = [&t, &[2, 1], &t[..17], &t[..53], &eleven, &missing];
     for bytes in tables {
@@ -212,17 +196,7 @@ pub fn damaged_numbers<S: Rides>() {
     each_seed("rides::damaged_numbers", 3_000, |rng| {
         let day = days::ties(rng);
         let sets = own(&day).unwrap();
-        let mut given = Given::new(&days::damaged(rng, &day));
-        match rng.below(8) {
-            0 => given.stops = rng.pick(&days::STOP_COUNTS),
-            1 => given.run_count = rng.pick(&days::RUN_COUNTS),
-            2 => {
-                let len = rng.below(given.runs.len() as u32 + 1) as usize;
-                given.runs.truncate(len);
-            }
-            3 => given.runs.extend([0, u32::MAX, 300, 3, 2, 1]),
-            _ => {}
-        }
+        let given = Given::damaged(rng, &day);
         let ask = asks::good(rng, day.stops, &tables::minutes(&sets));
         listed::<S>(&sets.bytes(), &given, ask, 50);
     });

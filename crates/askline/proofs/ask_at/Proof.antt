@@ -1,8 +1,8 @@
-use mathlib.Core.Path.{_≡_, sym, _∙_}
+use mathlib.Core.Path.{sym, _∙_}
 use native.Mathlib.Omega.{arith}
 use borrow.Author.Tests.{le-leb, lt-leb}
 use denote.Ref.{now}
-use Rattle.askline.specs.AskLine.{shapeOf, askLine}
+use Rattle.askline.specs.AskLine.{askLine}
 use Rattle.askline.specs.AskLineLaws.{ShapeWithin, shape-within}
 use borrow.Author.Needs.{needs}
 use Rattle.askline.proofs.ask_at.Statement.{statement}

@@ -1,9 +1,7 @@
 use borrow.Author.Needs.{needs}
 use Prim.Native.Nat.{_-_}
 use mathlib.Core.Path.{sym, _∙_}
-use native.Mathlib.Omega.{arith}
 use lib.ListN.{length}
-use Rattle.words.specs.WordsLaws.{seek-low}
 use Rattle.askline.specs.InputLaws.{Ending, ending-none, ending-out, ending-here, ending-more}
 use Rattle.askline.proofs.timetable_end.Statement.{statement}
 use Rattle.askline.proofs.timetable_end.Tie as tie

@@ -1,5 +1,4 @@
 use Rattle.asks.specs.Found.{aheadB}
-use borrow.Author.Needs.{needs}
 use borrow.Author.Tests.{eq-eqb, le-ltb, lt-ltb, ne-eqb}
 use Rattle.asks.proofs.ahead.Statement.{statement}
 use Rattle.asks.proofs.ahead.Tie as tie

@@ -1,4 +1,4 @@
-use mathlib.Core.Path.{refl, sym, ap, _∙_}
+use mathlib.Core.Path.{refl, sym, _∙_}
 use Rattle.asks.specs.Asks.{minutesRead}
 use borrow.Author.Needs.{needs}
 use Rattle.asks.proofs.judge_late.Statement.{statement}

@@ -1,6 +1,6 @@
 use borrow.Author.Needs.{needs}
 use Prim.Native.Nat.{_-_}
-use Rattle.asks.specs.Join.{Sets, InsTo}
+use Rattle.asks.specs.Join.{InsTo}
 use Rattle.asks.specs.JoinLaws.{ins-again, ins-stop, ins-done}
 use Rattle.asks.proofs.over_ins.Statement.{statement}
 use Rattle.asks.proofs.over_ins.Tie as tie

@@ -1,6 +1,6 @@
 use borrow.Author.Needs.{needs}
 use Prim.Native.Nat.{_-_}
-use Rattle.asks.specs.Join.{Sets, OutsTo}
+use Rattle.asks.specs.Join.{OutsTo}
 use Rattle.asks.specs.JoinLaws.{outs-begin, out-turn-at, outs-again, outs-done}
 use Rattle.asks.proofs.over_outs.Statement.{statement}
 use Rattle.asks.proofs.over_outs.Tie as tie

@@ -1,5 +1,5 @@
 use borrow.Author.Needs.{needs}
-use mathlib.Core.Path.{refl, _∙_}
+use mathlib.Core.Path.{_∙_}
 use native.Mathlib.Omega.{arith}
 use Rattle.timetable.specs.NumbersLaws.{good-run-at}
 use Rattle.departures.specs.DeparturesLaws.{IndexedFrom, kept-none, index-none, kept-then, index-more, index-all}

@@ -1,4 +1,4 @@
-use mathlib.Core.Path.{sym, ap, _∙_}
+use mathlib.Core.Path.{sym}
 use native.Mathlib.Omega.{arith}
 use lib.Seq.{length-take-le}
 use Rattle.askline.specs.InputLaws.{line-within}

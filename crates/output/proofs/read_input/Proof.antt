@@ -1,4 +1,4 @@
-use mathlib.Core.Path.{sym, ap, _∙_}
+use mathlib.Core.Path.{sym, ap}
 use lib.Seq.{length-take-le}
 use Rattle.loops.specs.Zero.{zeros}
 use Rattle.askline.specs.InputLaws.{timetable-within}

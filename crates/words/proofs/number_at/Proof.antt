@@ -1,7 +1,7 @@
 use mathlib.Core.Path.{_∙_, sym}
 use denote.Ref.{now}
 use borrow.Author.Tests.{eq-eqb, ne-eqb, lt-ltb, le-ltb}
-use Rattle.words.specs.Words.{numberAt, isNumber, valueOf}
+use Rattle.words.specs.Words.{numberAt, isNumber}
 use Rattle.words.specs.Digits.{digits-value, digits-other, zero-value}
 use borrow.Author.Needs.{needs}
 use Rattle.words.proofs.number_at.Statement.{statement}

@@ -1,5 +1,4 @@
 use Rattle.kinds.specs.Kinds.{isCodeByte}
-use borrow.Author.Needs.{needs}
 use borrow.Author.Tests.{le-ltb, lt-ltb}
 use Rattle.kinds.proofs.Code.is_byte.Statement.{statement}
 use Rattle.kinds.proofs.Code.is_byte.Tie as tie

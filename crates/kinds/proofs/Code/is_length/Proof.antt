@@ -1,5 +1,4 @@
 use Rattle.kinds.specs.Kinds.{isCodeLength}
-use borrow.Author.Needs.{needs}
 use borrow.Author.Tests.{eq-eqb, ne-eqb}
 use Rattle.kinds.proofs.Code.is_length.Statement.{statement}
 use Rattle.kinds.proofs.Code.is_length.Tie as tie

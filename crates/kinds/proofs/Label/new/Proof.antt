@@ -1,5 +1,4 @@
 use Rattle.kinds.specs.Kinds.{labelOf}
-use borrow.Author.Needs.{needs}
 use borrow.Author.Tests.{eq-eqb, le-leb, le-ltb, lt-leb, lt-ltb, ne-eqb}
 use Rattle.kinds.proofs.Label.new.Statement.{statement}
 use Rattle.kinds.proofs.Label.new.Tie as tie

@@ -1,6 +1,5 @@
 use mathlib.Core.Path.{refl}
 use Rattle.kinds.specs.Kinds.{isRunCount}
-use borrow.Author.Needs.{needs}
 use Rattle.kinds.proofs.Run.is_count.Statement.{statement}
 use Rattle.kinds.proofs.Run.is_count.Tie as tie
 use Rattle.kinds.proofs.Run.is_count.Reads as reads

@@ -1,5 +1,4 @@
 use Rattle.kinds.specs.Kinds.{isStopCount}
-use borrow.Author.Needs.{needs}
 use borrow.Author.Tests.{eq-eqb, ne-eqb}
 use Rattle.kinds.proofs.Stop.is_count.Statement.{statement}
 use Rattle.kinds.proofs.Stop.is_count.Tie as tie
