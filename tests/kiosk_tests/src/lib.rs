@@ -62,7 +62,7 @@ impl suite::Rides for Library {
 }
 
 #[cfg(any(feature = "build", feature = "check", feature = "rides"))]
-fn numbers(given: Numbers) -> kiosk::Numbers {
+fn numbers(given: Numbers<'_>) -> kiosk::Numbers<'_> {
     kiosk::Numbers { stops: given.stops, run_count: given.run_count, runs: given.runs }
 }
 
