@@ -120,6 +120,13 @@ module _ {s b : List ℕ} {roomR roomC lent : ℕ} {l m : List ℕ} {a : Admitte
       go (admits i x f h) = (told.accepted i x refl, h)
       go (refuses xs i x f w) = let z : _≡_ {A = ℕ} 0 1 = cc in absurd (omega arith)
 
+  pub admitted-accepts : {k : Counts} → a ≡ answer.Yes k → Accepts s b roomR roomC lent k
+  admitted-accepts {k} e = go t
+    where
+      go : AdmitOf s b roomR roomC lent l m a → Accepts s b roomR roomC lent k
+      go (admits i x f h) = let same : i ≡ k = cc in subst (Accepts s b roomR roomC lent) same x
+      go (refuses xs i x f w) = let z : _≡_ {A = ℕ} 0 1 = cc in absurd (omega arith)
+
   -- of accepted tables: the text was read, and what the two rooms hold is good
   pub admitted-read : {k : Counts} {numbers codes : List ℕ} → a ≡ answer.Yes k → numbers ≡ runsOf (readText s roomR roomC) roomR → codes ≡ codesOf (readText s roomR roomC) roomC →
       GoodRead s roomR roomC (k .stops) (k .runs) numbers codes × (length s ≤ mostText) × (runsRoom ≤ roomR)

@@ -6,7 +6,7 @@ use Rattle.kinds.specs.declared.Code.{Code}
 use Rattle.printed.specs.Printed.{decimal, decimalIn}
 use Rattle.report.specs.Texts.{bytes}
 use Rattle.report.specs.Words.{wordsOf, refusalLine}
-use Rattle.report.specs.Lines.{labelLine, runLine, stopLine, writtenLine}
+use Rattle.report.specs.Lines.{labelLine, runLine, stopLine, writtenLine, moreLine}
 use Rattle.report.specs.declared.Change.the-variants.{Direct, At}
 
 at-a-line : refusalLine (refusal stopUnknown 7) ≡ bytes "refused 5 at line 7 of the timetable: no stop has this code\n"
@@ -55,3 +55,7 @@ a-stop = refl
 a-build : writtenLine 4 6 6 54 ≡ bytes "written: 4 stops, 6 runs, 6 labels, 54 bytes\n"
 unfolding writtenLine decimal decimalIn
 a-build = refl
+
+a-long-file : moreLine (bytes "day.txt") 1048576 ≡ bytes "day.txt has more than 1048576 bytes\n"
+unfolding moreLine decimal decimalIn
+a-long-file = refl

@@ -42,6 +42,10 @@ unfoldable pub writtenLine : ℕ → ℕ → ℕ → ℕ → List ℕ
 writtenLine stops runs labels long =
     saying (counted "written:" stops ∷ counted " stops," runs ∷ counted " runs," labels ∷ counted " labels," long ∷ bytes " bytes" ∷ [])
 
--- room for any line
+-- "day.txt has more than 1048576 bytes"
+unfoldable pub moreLine : List ℕ → ℕ → List ℕ
+moreLine name most = saying (name ∷ counted " has more than" most ∷ bytes " bytes" ∷ [])
+
+-- room for any line, but for a file's name in it
 abbrev pub lineRoom : ℕ
 lineRoom = 280

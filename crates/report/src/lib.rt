@@ -15,7 +15,7 @@ ghost use Rattle.printed.specs.Printed.{mostDigits, decimal, codeOf};
 ghost use Rattle.printed.specs.Wrote.{Wrote, CodeIn};
 ghost use Rattle.report.specs.Texts.{counted};
 ghost use Rattle.report.specs.Words.{wordsOf, mostWords, linePlace, placeOf, refusalLine};
-ghost use Rattle.report.specs.Lines.{acceptedLine, changeOf, ChangeIn, labelLine, runLine, stopLine, writtenLine, lineRoom};
+ghost use Rattle.report.specs.Lines.{acceptedLine, changeOf, ChangeIn, labelLine, runLine, stopLine, writtenLine, moreLine, lineRoom};
 
 // Room for any line.
 pub const LINE_ROOM: usize = 280;
@@ -364,4 +364,16 @@ pub fn written_line(
     let d = put_counted(out, c, b" labels,", long);
     let e = put_text(out, d, b" bytes");
     put_lf(out, e)
+}
+
+// "NAME has more than MOST bytes"
+pub fn more_line(out: &mut [u8], at: usize, name: &[u8], most: u32) -> usize
+    requires { ⌜ at + length (now name) + lineRoom ≤ length (now out) ⌝ }
+    ensures { λ r. ⌜ Wrote (now (out .entry)) at (moreLine (now (name .entry)) most) (now (out .exit)) r ⌝ }
+    ensures { λ r. ⌜ r ≤ at + length (now (name .entry)) + lineRoom ⌝ }
+{
+    let a = put_text(out, at, name);
+    let b = put_counted(out, a, b" has more than", most);
+    let c = put_text(out, b, b" bytes");
+    put_lf(out, c)
 }
