@@ -101,8 +101,8 @@ module _ {s : List ℕ} {roomR roomC : ℕ} {k : Counts} {numbers codes : List �
         (spellable (read-roomy s roomR roomC (g .read) (g .whole)) (text-good s roomR roomC (g .read) (g .whole) .0)
         (checked-places b (g .read .stops) (g .read .runs) (g .read .numbers) lent x (rw e at checked-whole)))
 
-    pub whole-refused : (x : Refusal) (ys : List ℕ) → v ≡ verdict.No x → Spelled (tablesOf b) s codes numbers x ys → Refused s b roomR roomC lent (refusalLine x ++ ys)
-    whole-refused x ys e p = by-check (g .read) x ys (g .whole) (rw e at checked-whole) (rw (g .numbers-are, g .codes-are) at p) refl
+    pub whole-refused : (x : Refusal) (ys : List ℕ) → v ≡ verdict.No x → Spelled (tablesOf b) s codes numbers (k .stops) x ys → Refused s b roomR roomC lent (refusalLine x ++ ys)
+    whole-refused x ys e p = by-check (g .read) x ys (g .whole) (rw e at checked-whole) (rw (g .counts, g .numbers-are, g .codes-are) at p) refl
 
 -- what the answer says of all that is told
 module _ {s b : List ℕ} {roomR roomC lent : ℕ} {l m : List ℕ} {a : Admitted} (t : AdmitOf s b roomR roomC lent l m a) where

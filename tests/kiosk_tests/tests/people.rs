@@ -263,7 +263,7 @@ fn files_that_cannot_be_written() {
     };
     build(
         &["bad", "old"],
-        "refused 2 at line 2 of the timetable: the line has no form that may stand here\n",
+        "refused 2 at line 2 of the timetable: the line is missing or unfinished, or has no form that may stand here\n",
     );
     build(&["day", "dir"], "cannot make dir\n");
     build(&["day", "dir/none/tables"], "cannot make dir/none/tables\n");

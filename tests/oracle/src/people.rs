@@ -12,7 +12,7 @@ pub const MOST_TABLES: usize = 2 + 4 * MOST_STOPS + 6 * MOST_LABELS;
 /// What each refusal means: number 1 first.
 const WORDS: [&str; 22] = [
     "the first line is not \"timetable 1\"",
-    "the line has no form that may stand here",
+    "the line is missing or unfinished, or has no form that may stand here",
     "the stop code is empty, too long, or holds a character that no code has",
     "an earlier stop has this code",
     "no stop has this code",
@@ -78,9 +78,43 @@ fn spelled(text: &[u8], timetable: &Timetable, tables: &Tables, refusal: Refusal
     }
 }
 
+/// Label `k` of tables whose labels are not all good, by its numbers.
+fn spelled_bad(text: &[u8], timetable: &Timetable, bytes: &[u8], k: usize) -> Vec<u8> {
+    let two = |at: usize| bytes[at] as usize + 256 * bytes[at + 1] as usize;
+    let (mut set, mut end) = (0, two(2));
+    while end <= k {
+        set += 1;
+        end += two(2 + 2 * set);
+    }
+    let owner = set / 2;
+    let side = if set % 2 == 0 { "an out-label" } else { "an in-label" };
+    let at = 2 + 4 * bytes[1] as usize + 6 * k;
+    let (hub, dep, arr) = (bytes[at], two(at + 1), two(at + 3));
+    let pivot = match bytes[at + 5] {
+        255 => "no pivot".to_string(),
+        pivot => format!("pivot {pivot}"),
+    };
+    let mut said = format!(
+        "label {k}: {side} of stop {owner}, hub {hub}, leaves {dep}, arrives {arr}, {pivot}\n"
+    )
+    .into_bytes();
+    if owner < timetable.codes.len() {
+        said.extend(format!("stop {owner}: ").into_bytes());
+        said.extend(timetable.code(text, owner));
+        said.push(b'\n');
+    }
+    said
+}
+
 /// The timetable and the tables, or what is said where the check refuses them.
 fn admit(text: &[u8], tables: &[u8]) -> Result<(Timetable, Tables), Vec<u8>> {
-    let judged = judge_tables(tables).map_err(refused)?;
+    let judged = judge_tables(tables).map_err(|refusal| {
+        let mut said = refused(refusal);
+        if let (11, Ok(timetable)) = (refusal.number, text::read(text)) {
+            said.extend(spelled_bad(text, &timetable, tables, refusal.place as usize));
+        }
+        said
+    })?;
     let timetable = text::read(text).map_err(refused)?;
     if judged.stops != timetable.codes.len() {
         return Err(refused(Refusal::plain(21)));
