@@ -4,3 +4,4 @@ pub mod SpelledLaws
 pub mod Told
 pub mod ToldLaws
 pub mod ToldOne
+pub mod LongLaws

@@ -4,14 +4,18 @@ use mathlib.Core.Path.{_≡_}
 use mathlib.Core.Logic.{_≢_}
 use mathlib.Core.List.{List, [], _++_}
 use mathlib.Core.Option.{Option, none, some}
-use Rattle.kinds.specs.Refusals.{unsupported, gap}
+use mathlib.Core.Bool.{Bool, true, false, cond}
+use lib.Dec.{ltb}
+use Rattle.kinds.specs.Refusals.{labelBad, unsupported, gap}
 use Rattle.kinds.specs.declared.Refusal.{Refusal}
-use Rattle.journeys.specs.Tables.{Tables, LabelAt}
+use Rattle.journeys.specs.Tables.{Side, outs, ins, Tables, Entry, LabelAt}
 use Rattle.timetable.specs.Numbers.{runAt}
 use Rattle.answers.specs.Answers.{codeAt}
-use Rattle.report.specs.Lines.{labelLine, runLine, stopLine}
+use Rattle.report.specs.Lines.{labelLine, entryLine, runLine, stopLine}
 use Rattle.report.specs.declared.Change.{Change}
 use Rattle.report.specs.declared.Change.the-variants.{Direct, At}
+use Rattle.report.specs.declared.Pivot.{Pivot}
+use Rattle.report.specs.declared.Pivot.the-variants as pivot
 
 -- a label's pivot is where one changes
 abbrev pub changeAt : List ℕ → Option ℕ → Change
@@ -36,8 +40,29 @@ runSpelled s codes runs i =
 abbrev pub stopSpelled : List ℕ → List ℕ → ℕ → List ℕ
 stopSpelled s codes j = stopLine s j (codeAt codes j)
 
--- 19 names a label, 20 a run and a stop; any other refusal of the check names nothing that can be spelled out
-pub data Spelled (T : Tables) (s codes runs : List ℕ) (r : Refusal) (xs : List ℕ) : Type 0 where
-  a-label : r .number ≡ unsupported → LabelSpelled T s codes (r .place) xs → Spelled T s codes runs r xs
-  a-gap : r .number ≡ gap → xs ≡ runSpelled s codes runs (r .place) ++ stopSpelled s codes (r .stop) → Spelled T s codes runs r xs
-  nothing : r .number ≢ unsupported → r .number ≢ gap → xs ≡ [] → Spelled T s codes runs r xs
+-- the two sets of a stop, and a pivot, as they are printed
+abbrev pub sideOf : Bool → Side
+sideOf true = outs
+sideOf false = ins
+
+abbrev pub pivotSaid : Option ℕ → Pivot
+pivotSaid none = pivot.No
+pivotSaid (some p) = pivot.At p
+
+-- label k by its numbers, with the code of the stop that owns it where the timetable, which has so many stops, has that stop
+pub record BadSpelled (T : Tables) (s codes : List ℕ) (stops k : ℕ) (xs : List ℕ) : Type 0 where
+  pub out : Bool
+  pub owner : ℕ
+  pub hub : ℕ
+  pub dep : ℕ
+  pub arr : ℕ
+  pub pivot : Option ℕ
+  pub entry : Entry T (sideOf out) k owner hub dep arr pivot
+  pub is : xs ≡ entryLine k out owner hub dep arr (pivotSaid pivot) ++ cond (ltb owner stops) (stopSpelled s codes owner) []
+
+-- 11 and 19 name a label, 20 a run and a stop; any other refusal of the check names nothing that can be spelled out
+pub data Spelled (T : Tables) (s codes runs : List ℕ) (stops : ℕ) (r : Refusal) (xs : List ℕ) : Type 0 where
+  a-bad : r .number ≡ labelBad → BadSpelled T s codes stops (r .place) xs → Spelled T s codes runs stops r xs
+  a-label : r .number ≡ unsupported → LabelSpelled T s codes (r .place) xs → Spelled T s codes runs stops r xs
+  a-gap : r .number ≡ gap → xs ≡ runSpelled s codes runs (r .place) ++ stopSpelled s codes (r .stop) → Spelled T s codes runs stops r xs
+  nothing : r .number ≢ labelBad → r .number ≢ unsupported → r .number ≢ gap → xs ≡ [] → Spelled T s codes runs stops r xs

@@ -1,25 +1,27 @@
 -- Laws of what is spelled out: where the labels of a stop begin and end, that a number names one label, and that what a refusal names can be spelled out.
 use Prim.Native.Nat.{ℕ, suc, _+_, _*_, _≤_, _<_}
 use mathlib.Core.Path.{_≡_, refl, sym, ap, subst, _∙_}
-use mathlib.Core.List.{List}
+use mathlib.Core.List.{List, _++_, append-nil}
 use mathlib.Core.Option.{Option, some}
+use mathlib.Core.Bool.{Bool, true, false}
 use mathlib.Core.Logic.{_⊎_, inl, inr}
 use native.Mathlib.Omega.{arith}
 use native.Mathlib.Decide.{ℕ-discrete}
+use borrow.Author.Tests.{lt-ltb, le-ltb}
 use Rattle.kinds.specs.Limits.{noPivot, runsRoom}
-use Rattle.kinds.specs.Refusals.{unsupported, gap}
+use Rattle.kinds.specs.Refusals.{labelBad, unsupported, gap}
 use Rattle.kinds.specs.declared.Refusal.{Refusal}
 use Rattle.journeys.specs.Tables.{Side, outs, ins, Tables, Entry, LabelAt, of-out, of-in}
 use Rattle.tables.specs.File.{stopsOf, startOf, labelsOf, labelAt, pivotOf, tablesOf}
 use Rattle.tables.specs.FileLaws.{start-none, start-more}
-use Rattle.tables.specs.Good.{GoodFile}
-use Rattle.tables.specs.TablesLaws.{pivot-none, pivot-some, good-stops, entry-read, entry-one, good-tables}
+use Rattle.tables.specs.Good.{Room, GoodFile}
+use Rattle.tables.specs.TablesLaws.{pivot-none, pivot-some, good-stops, room-entry, entry-only, entry-one, good-tables}
 use Rattle.timetable.specs.Numbers.{runAt, GoodRunAt}
 use Rattle.reader.specs.TextLaws.{GoodRead}
 use Rattle.answers.specs.AnswersLaws.{Named, named-all}
-use Rattle.report.specs.Lines.{ChangeIn}
-use Rattle.desk.specs.Spelled.{changeAt}
-use Rattle.desk.specs.CheckLaws.{Places}
+use Rattle.report.specs.Lines.{ChangeIn, entryLine}
+use Rattle.desk.specs.Spelled.{changeAt, stopSpelled, sideOf, pivotSaid, BadSpelled}
+use Rattle.desk.specs.CheckLaws.{BadPlace, Places}
 
 module _ (b : List ℕ) where
   pub outs-first : tablesOf b .start outs 0 ≡ 0
@@ -35,19 +37,19 @@ module _ (b : List ℕ) where
   unfolding tablesOf
   outs-follow s = let e : 2 * s + 1 + 1 ≡ 2 * (s + 1) = omega arith in sym (start-more b (2 * s + 1)) ∙ ap (startOf b) e
 
-module _ {b : List ℕ} {n : ℕ} (g : GoodFile b n) where
+module _ {b : List ℕ} {n : ℕ} (g : Room b n) where
   pub outs-last : tablesOf b .start outs n ≡ labelsOf b
   unfolding tablesOf
-  outs-last = ap (λ (m : ℕ). startOf b (2 * m)) (sym (g .room .contents .stops))
+  outs-last = ap (λ (m : ℕ). startOf b (2 * m)) (sym (g .contents .stops))
 
   -- label k stands between the bounds of stop s: it is an out-label or an in-label
   pub label-out : (s k : ℕ) → s < n → tablesOf b .start outs s ≤ k → k < tablesOf b .end outs s →
-      LabelAt (tablesOf b) k s (labelAt b k .hub) (labelAt b k .dep) (labelAt b k .arr) (pivotOf (labelAt b k .pivot))
-  label-out s k lt low high = of-out (entry-read g outs s k lt low high)
+      Entry (tablesOf b) outs k s (labelAt b k .hub) (labelAt b k .dep) (labelAt b k .arr) (pivotOf (labelAt b k .pivot))
+  label-out s k lt low high = room-entry g outs s k lt low high
 
   pub label-in : (s k : ℕ) → s < n → tablesOf b .end outs s ≤ k → k < tablesOf b .end ins s →
-      LabelAt (tablesOf b) k (labelAt b k .hub) s (labelAt b k .dep) (labelAt b k .arr) (pivotOf (labelAt b k .pivot))
-  label-in s k lt low high = of-in (entry-read g ins s k lt (omega (arith, ins-follow b s)) high)
+      Entry (tablesOf b) ins k s (labelAt b k .hub) (labelAt b k .dep) (labelAt b k .arr) (pivotOf (labelAt b k .pivot))
+  label-in s k lt low high = room-entry g ins s k lt (omega (arith, ins-follow b s)) high
 
 -- a number names one label
 pub record SameLabel (u v d a : ℕ) (p : Option ℕ) (u′ v′ d′ a′ : ℕ) (p′ : Option ℕ) : Type 0 where
@@ -68,6 +70,28 @@ module _ {b : List ℕ} {n : ℕ} (g : GoodFile b n) {k u v d a u′ v′ d′ a
       record { from = sym (x .hub) ∙ y .hub; to = entry-one g x y .1; dep = sym (x .dep) ∙ y .dep; arr = sym (x .arr) ∙ y .arr; pivot = sym (x .pivot) ∙ y .pivot }
   label-one (of-out x) (of-in y) = absurd (no-side (entry-one g x y .0))
   label-one (of-in x) (of-out y) = absurd (no-side (sym (entry-one g x y .0)))
+
+-- and the label that is not good
+side-one : (x y : Bool) → sideOf x ≡ sideOf y → x ≡ y
+side-one true true e = refl
+side-one false false e = refl
+side-one true false e = absurd (no-side e)
+side-one false true e = absurd (no-side (sym e))
+
+pub bad-spelled-one : (b : List ℕ) {s codes : List ℕ} {stops k : ℕ} {xs ys : List ℕ} → BadSpelled (tablesOf b) s codes stops k xs → BadSpelled (tablesOf b) s codes stops k ys → xs ≡ ys
+bad-spelled-one b x y =
+    let z = entry-only b (x .entry) (y .entry) in
+    x .is ∙ rw (side-one (x .out) (y .out) (z .0), z .1, sym (x .entry .hub) ∙ y .entry .hub, sym (x .entry .dep) ∙ y .entry .dep, sym (x .entry .arr) ∙ y .entry .arr, sym (x .entry .pivot) ∙ y .entry .pivot)
+    (sym (y .is))
+
+-- the stop that owns it is one of the timetable's, or is not
+module _ {T : Tables} (out : Bool) {k owner hub dep arr : ℕ} {pivot : Option ℕ} (e : Entry T (sideOf out) k owner hub dep arr pivot) where
+  pub bad-owned : {s codes : List ℕ} {stops : ℕ} → owner < stops → BadSpelled T s codes stops k (entryLine k out owner hub dep arr (pivotSaid pivot) ++ stopSpelled s codes owner)
+  bad-owned {stops = stops} lt = record { out = out; owner = owner; hub = hub; dep = dep; arr = arr; pivot = pivot; entry = e; is = rw (lt-ltb owner stops lt) }
+
+  pub bad-alone : {s codes : List ℕ} {stops : ℕ} → stops ≤ owner → BadSpelled T s codes stops k (entryLine k out owner hub dep arr (pivotSaid pivot))
+  bad-alone {stops = stops} le =
+      record { out = out; owner = owner; hub = hub; dep = dep; arr = arr; pivot = pivot; entry = e; is = rw (le-ltb owner stops le) (sym (append-nil _)) }
 
 -- ---- the stops of a label are stops
 
@@ -114,6 +138,7 @@ pub record RunNamed (s codes runs : List ℕ) (i : ℕ) : Type 0 where
 -- what the refusal names, in tables of n stops
 pub record Spellable (b s codes runs : List ℕ) (n : ℕ) (r : Refusal) : Type 0 where
   pub names : AllNamed s codes n
+  pub bad : r .number ≡ labelBad → BadPlace b (r .place)
   pub file : r .number ≡ unsupported → GoodFile b n
   pub label : r .number ≡ unsupported → r .place < labelsOf b
   pub run : r .number ≡ gap → RunNamed s codes runs (r .place)
@@ -124,6 +149,7 @@ pub spellable : {s b codes runs : List ℕ} {roomR roomC stops count : ℕ} {r :
 spellable {s} {b} {codes} {runs} {roomR} {roomC} {stops} {count} {r} room g p =
     record {
       names = record { stop = named-all g };
+      bad = p .bad;
       file = p .file;
       label = p .label;
       run = λ h. let q = g .good (r .place) (p .run h) in

@@ -41,7 +41,7 @@ pub data Refused (s b : List ℕ) (roomR roomC lent : ℕ) (xs : List ℕ) : Typ
   by-text : (number place : ℕ) → readText s roomR roomC ≡ bad number place → xs ≡ refusalLine (before (judgedTables b) (refusal number place)) →
       Refused s b roomR roomC lent xs
   by-check : (w : Sofar) (r : Refusal) (ys : List ℕ) → readText s roomR roomC ≡ whole w → Checked b (w .stops) (w .runs) (w .numbers) lent (verdict.No r) →
-      Spelled (tablesOf b) s (w .codes) (w .numbers) r ys → xs ≡ refusalLine r ++ ys → Refused s b roomR roomC lent xs
+      Spelled (tablesOf b) s (w .codes) (w .numbers) (w .stops) r ys → xs ≡ refusalLine r ++ ys → Refused s b roomR roomC lent xs
 
 -- the tables are accepted against the text, which has so many stops and runs
 pub record Accepts (s b : List ℕ) (roomR roomC lent : ℕ) (k : Counts) : Type 0 where

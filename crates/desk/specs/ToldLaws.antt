@@ -101,8 +101,8 @@ module _ {s : List ℕ} {roomR roomC : ℕ} {k : Counts} {numbers codes : List �
         (spellable (read-roomy s roomR roomC (g .read) (g .whole)) (text-good s roomR roomC (g .read) (g .whole) .0)
         (checked-places b (g .read .stops) (g .read .runs) (g .read .numbers) lent x (rw e at checked-whole)))
 
-    pub whole-refused : (x : Refusal) (ys : List ℕ) → v ≡ verdict.No x → Spelled (tablesOf b) s codes numbers x ys → Refused s b roomR roomC lent (refusalLine x ++ ys)
-    whole-refused x ys e p = by-check (g .read) x ys (g .whole) (rw e at checked-whole) (rw (g .numbers-are, g .codes-are) at p) refl
+    pub whole-refused : (x : Refusal) (ys : List ℕ) → v ≡ verdict.No x → Spelled (tablesOf b) s codes numbers (k .stops) x ys → Refused s b roomR roomC lent (refusalLine x ++ ys)
+    whole-refused x ys e p = by-check (g .read) x ys (g .whole) (rw e at checked-whole) (rw (g .counts, g .numbers-are, g .codes-are) at p) refl
 
 -- what the answer says of all that is told
 module _ {s b : List ℕ} {roomR roomC lent : ℕ} {l m : List ℕ} {a : Admitted} (t : AdmitOf s b roomR roomC lent l m a) where
@@ -118,6 +118,13 @@ module _ {s b : List ℕ} {roomR roomC lent : ℕ} {l m : List ℕ} {a : Admitte
     where
       go : AdmitOf s b roomR roomC lent l m a → CheckTold s b roomR roomC lent acceptedLine × (m ≡ l)
       go (admits i x f h) = (told.accepted i x refl, h)
+      go (refuses xs i x f w) = let z : _≡_ {A = ℕ} 0 1 = cc in absurd (omega arith)
+
+  pub admitted-accepts : {k : Counts} → a ≡ answer.Yes k → Accepts s b roomR roomC lent k
+  admitted-accepts {k} e = go t
+    where
+      go : AdmitOf s b roomR roomC lent l m a → Accepts s b roomR roomC lent k
+      go (admits i x f h) = let same : i ≡ k = cc in subst (Accepts s b roomR roomC lent) same x
       go (refuses xs i x f w) = let z : _≡_ {A = ℕ} 0 1 = cc in absurd (omega arith)
 
   -- of accepted tables: the text was read, and what the two rooms hold is good

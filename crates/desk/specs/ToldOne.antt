@@ -23,9 +23,9 @@ use Rattle.builder.specs.BuildLaws.{build-one}
 use Rattle.printed.specs.Wrote.{Wrote}
 use Rattle.printed.specs.WroteLaws.{wrote-one}
 use Rattle.report.specs.Words.{refusalLine}
-use Rattle.desk.specs.Spelled.{LabelSpelled, Spelled, a-label, a-gap, nothing}
+use Rattle.desk.specs.Spelled.{LabelSpelled, Spelled, a-bad, a-label, a-gap, nothing}
 use Rattle.desk.specs.CheckLaws.{checked-places}
-use Rattle.desk.specs.SpelledLaws.{label-one}
+use Rattle.desk.specs.SpelledLaws.{label-one, bad-spelled-one}
 use Rattle.desk.specs.Told.{before, Refused, by-text, by-check, Accepts, AdmitOf, admits, refuses, CheckTold, accepted, refused, BuildTold, bad-text, bad-build, built}
 use Rattle.desk.specs.declared.Admitted.{Admitted}
 use Rattle.desk.specs.declared.Admitted.the-variants as answer
@@ -40,17 +40,24 @@ module _ {b : List ℕ} {n : ℕ} {s codes : List ℕ} where
       let z = label-one g (x .label) (y .label) in
       x .is ∙ rw (z .from, z .to, z .dep, z .arr, z .pivot) (sym (y .is))
 
-  spelled-one : {runs : List ℕ} {r : Refusal} {xs ys : List ℕ} → (r .number ≡ unsupported → GoodFile b n) → Spelled (tablesOf b) s codes runs r xs → Spelled (tablesOf b) s codes runs r ys →
-      xs ≡ ys
+  spelled-one : {runs : List ℕ} {stops : ℕ} {r : Refusal} {xs ys : List ℕ} → (r .number ≡ unsupported → GoodFile b n) → Spelled (tablesOf b) s codes runs stops r xs →
+      Spelled (tablesOf b) s codes runs stops r ys → xs ≡ ys
+  spelled-one g (a-bad e x) (a-bad f y) = bad-spelled-one b x y
+  spelled-one g (a-bad e x) (a-label f y) = absurd (omega arith)
+  spelled-one g (a-bad e x) (a-gap f y) = absurd (omega arith)
+  spelled-one g (a-bad e x) (nothing l n m y) = absurd (l e)
+  spelled-one g (a-label e x) (a-bad f y) = absurd (omega arith)
   spelled-one g (a-label e x) (a-label f y) = label-spelled-one (g e) x y
   spelled-one g (a-label e x) (a-gap f y) = absurd (omega arith)
-  spelled-one g (a-label e x) (nothing n m y) = absurd (n e)
+  spelled-one g (a-label e x) (nothing l n m y) = absurd (n e)
+  spelled-one g (a-gap e x) (a-bad f y) = absurd (omega arith)
   spelled-one g (a-gap e x) (a-label f y) = absurd (omega arith)
   spelled-one g (a-gap e x) (a-gap f y) = x ∙ sym y
-  spelled-one g (a-gap e x) (nothing n m y) = absurd (m e)
-  spelled-one g (nothing n m x) (a-label f y) = absurd (n f)
-  spelled-one g (nothing n m x) (a-gap f y) = absurd (m f)
-  spelled-one g (nothing n m x) (nothing o p y) = x ∙ sym y
+  spelled-one g (a-gap e x) (nothing l n m y) = absurd (m e)
+  spelled-one g (nothing l n m x) (a-bad f y) = absurd (l f)
+  spelled-one g (nothing l n m x) (a-label f y) = absurd (n f)
+  spelled-one g (nothing l n m x) (a-gap f y) = absurd (m f)
+  spelled-one g (nothing l n m x) (nothing h o p y) = x ∙ sym y
 
 -- ---- the check
 
@@ -81,12 +88,12 @@ module _ {s b : List ℕ} {roomR roomC lent : ℕ} where
   refused-one (by-check w r xs e c t x) (by-text n p f y) = absurd (not-both e f)
   refused-one (by-check w r xs e c t x) (by-check v q ys f d u y) = x ∙ go (same-whole e f) d u ∙ sym y
     where
-      go : w ≡ v → Checked b (v .stops) (v .runs) (v .numbers) lent (verdict.No q) → Spelled (tablesOf b) s (v .codes) (v .numbers) q ys → refusalLine r ++ xs ≡ refusalLine q ++ ys
+      go : w ≡ v → Checked b (v .stops) (v .runs) (v .numbers) lent (verdict.No q) → Spelled (tablesOf b) s (v .codes) (v .numbers) (v .stops) q ys → refusalLine r ++ xs ≡ refusalLine q ++ ys
       go h d u =
           let c₂ : Checked b (v .stops) (v .runs) (v .numbers) lent (verdict.No r) = subst (λ (i : Sofar). Checked b (i .stops) (i .runs) (i .numbers) lent (verdict.No r)) h c in
-          let t₂ : Spelled (tablesOf b) s (v .codes) (v .numbers) r xs = subst (λ (i : Sofar). Spelled (tablesOf b) s (i .codes) (i .numbers) r xs) h t in
+          let t₂ : Spelled (tablesOf b) s (v .codes) (v .numbers) (v .stops) r xs = subst (λ (i : Sofar). Spelled (tablesOf b) s (i .codes) (i .numbers) (i .stops) r xs) h t in
           let k : r ≡ q = same-refusal (checked-one b (v .stops) (v .runs) (v .numbers) lent c₂ d) in
-          let u₂ : Spelled (tablesOf b) s (v .codes) (v .numbers) r ys = subst (λ (i : Refusal). Spelled (tablesOf b) s (v .codes) (v .numbers) i ys) (sym k) u in
+          let u₂ : Spelled (tablesOf b) s (v .codes) (v .numbers) (v .stops) r ys = subst (λ (i : Refusal). Spelled (tablesOf b) s (v .codes) (v .numbers) (v .stops) i ys) (sym k) u in
           let g = checked-places b (v .stops) (v .runs) (v .numbers) lent r c₂ in
           rw (k, spelled-one (g .file) t₂ u₂)
 

@@ -10,6 +10,7 @@ use kinds::Text;
 use reader::Counts;
 use reader::ReadAnswer;
 use report::Change;
+use report::Pivot;
 use tables::TablesRead;
 use verdict::Verdict;
 ghost use mathlib.Core.Path.{_≡_};
@@ -18,17 +19,18 @@ ghost use Prim.Native.Nat.{ℕ, _+_, _*_, _≤_, _<_};
 ghost use mathlib.Core.Logic.{_⊎_};
 ghost use lib.ListN.{length};
 ghost use Rattle.loops.specs.Zero.{zeros};
-ghost use Rattle.journeys.specs.Tables.{outs, ins, LabelAt};
+ghost use Rattle.journeys.specs.Tables.{outs, ins, Entry, LabelAt};
 ghost use Rattle.kinds.specs.Limits.{noPivot, runsRoom, codesRoom, mostText};
 ghost use Rattle.tables.specs.File.{tablesOf, fileRoom, labelsOf, labelAt, pivotOf};
 ghost use Rattle.tables.specs.Judged.{judgedTables};
-ghost use Rattle.tables.specs.Good.{GoodFile};
+ghost use Rattle.tables.specs.Good.{Room, GoodFile};
 ghost use Rattle.reader.specs.Text.{readText, runsOf, codesOf};
 ghost use Rattle.answers.specs.AnswersLaws.{Named};
 ghost use Rattle.printed.specs.Wrote.{Wrote};
 ghost use Rattle.report.specs.Lines.{lineRoom};
 ghost use Rattle.report.specs.Words.{refusalLine};
-ghost use Rattle.desk.specs.Spelled.{changeAt, LabelSpelled, runSpelled, stopSpelled, Spelled};
+ghost use Rattle.desk.specs.Spelled.{changeAt, LabelSpelled, sideOf, pivotSaid, BadSpelled, runSpelled, stopSpelled, Spelled};
+ghost use Rattle.desk.specs.CheckLaws.{BadPlace};
 ghost use Rattle.desk.specs.SpelledLaws.{AllNamed, RunNamed, Spellable};
 ghost use Rattle.ground.specs.Ground.{groundRoom};
 ghost use Rattle.desk.specs.Told.{toldRoom, before, AdmitOf, AdmitShort, CheckTold, BuildTold, MadeShort};
@@ -68,7 +70,13 @@ pub fn tables_room() -> [u8; tables::FILE_ROOM + 1]
     [0; tables::FILE_ROOM + 1]
 }
 
-// ---- A label by its ends.
+// ---- A label by its set, and by its ends.
+
+// A label is an out-label or an in-label of its owner.
+struct Whose {
+    outgoing: bool,
+    owner: u16,
+}
 
 struct Ends {
     from: u16,
@@ -77,7 +85,7 @@ struct Ends {
 
 // The stop that owns label k: the first whose labels end behind it.
 fn owner_of(tables: &[u8], n: u16, k: usize) -> u16
-    requires { ⌜ GoodFile (now tables) n ⌝ }
+    requires { ⌜ Room (now tables) n ⌝ }
     requires { ⌜ k < labelsOf (now tables) ⌝ }
     ensures { λ r. ⌜ (r < n) × (tablesOf (now (tables .entry)) .start outs r ≤ k) × (k < tablesOf (now (tables .entry)) .end ins r) ⌝ }
 {
@@ -92,25 +100,45 @@ fn owner_of(tables: &[u8], n: u16, k: usize) -> u16
     s
 }
 
+// Whose label k is; it need not be good.
+fn set_of(tables: &[u8], n: u16, k: usize) -> Whose
+    requires { ⌜ Room (now tables) n ⌝ }
+    requires { ⌜ k < labelsOf (now tables) ⌝ }
+    ensures { λ r. ⌜ Entry (tablesOf (now (tables .entry))) (sideOf (r .outgoing)) k (r .owner) (labelAt (now (tables .entry)) k .hub) (labelAt (now (tables .entry)) k .dep)
+        (labelAt (now (tables .entry)) k .arr) (pivotOf (labelAt (now (tables .entry)) k .pivot)) ⌝ }
+{
+    let owner = owner_of(tables, n, k);
+    let outs = tables::outs_of(tables, n, owner);
+    if k < outs.end {
+        return Whose {
+            outgoing: true,
+            owner,
+        };
+    }
+    Whose {
+        outgoing: false,
+        owner,
+    }
+}
+
 // Label k is a label from one stop to another.
 fn ends_of(tables: &[u8], n: u16, k: usize) -> Ends
-    requires { ⌜ GoodFile (now tables) n ⌝ }
+    requires { ⌜ Room (now tables) n ⌝ }
     requires { ⌜ k < labelsOf (now tables) ⌝ }
     ensures { λ r. ⌜ LabelAt (tablesOf (now (tables .entry))) k (r .from) (r .to) (labelAt (now (tables .entry)) k .dep) (labelAt (now (tables .entry)) k .arr)
         (pivotOf (labelAt (now (tables .entry)) k .pivot)) ⌝ }
 {
-    let owner = owner_of(tables, n, k);
     let l = tables::label_at(tables, n, k);
-    let outs = tables::outs_of(tables, n, owner);
-    if k < outs.end {
+    let whose = set_of(tables, n, k);
+    if whose.outgoing {
         return Ends {
-            from: owner,
+            from: whose.owner,
             to: l.hub,
         };
     }
     Ends {
         from: l.hub,
-        to: owner,
+        to: whose.owner,
     }
 }
 
@@ -161,6 +189,54 @@ fn spell_label(
     )
 }
 
+// A label's pivot by its number.
+fn pivot_of(pivot: u16) -> Pivot
+    ensures { λ r. ⌜ r ≡ pivotSaid (pivotOf pivot) ⌝ }
+{
+    if pivot == Label::NO_PIVOT {
+        return Pivot::No;
+    }
+    Pivot::At(pivot as u32)
+}
+
+// A label that is not good, by its numbers; and the code of the stop that owns it, where the timetable has that stop.
+fn spell_bad(
+    out: &mut [u8],
+    at: usize,
+    text: &[u8],
+    codes: &[u32],
+    tables: &[u8],
+    n: u16,
+    k: u32,
+) -> usize
+    requires { ⌜ at + 2 * lineRoom ≤ length (now out) ⌝ }
+    requires { ⌜ AllNamed (now text) (now codes) n ⌝ }
+    requires { ⌜ BadPlace (now tables) k ⌝ }
+    ensures { λ r. ⌜ ((xs : List ℕ) × BadSpelled (tablesOf (now (tables .entry))) (now (text .entry)) (now (codes .entry)) n k xs × Wrote (now (out .entry)) at xs (now (out .exit)) r) ⌝ }
+    ensures { λ r. ⌜ r ≤ at + 2 * lineRoom ⌝ }
+{
+    let i = k as usize;
+    let stops = tables::stop_count(tables);
+    let whose = set_of(tables, stops, i);
+    let l = tables::label_at(tables, stops, i);
+    let pivot = pivot_of(l.pivot);
+    let a = report::entry_line(
+        out,
+        at,
+        k,
+        whose.outgoing,
+        whose.owner as u32,
+        l.hub as u32,
+        l.dep as u32,
+        l.arr as u32,
+        pivot,
+    );
+    if whose.owner < n {
+        return spell_stop(out, a, text, codes, whose.owner as u32);
+    }
+    a
+}
+
 fn spell_run(out: &mut [u8], at: usize, text: &[u8], codes: &[u32], runs: &[u32], i: u32) -> usize
     requires { ⌜ at + lineRoom ≤ length (now out) ⌝ }
     requires { ⌜ RunNamed (now text) (now codes) (now runs) i ⌝ }
@@ -193,7 +269,7 @@ fn spell_stop(out: &mut [u8], at: usize, text: &[u8], codes: &[u32], j: u32) -> 
     report::stop_line(out, at, text, j, code)
 }
 
-// 19 names a label, 20 a run and a stop; other refusals of the check name nothing more.
+// 11 and 19 name a label, 20 a run and a stop; other refusals of the check name nothing more.
 fn spell(
     out: &mut [u8],
     at: usize,
@@ -206,9 +282,12 @@ fn spell(
 ) -> usize
     requires { ⌜ at + 2 * lineRoom ≤ length (now out) ⌝ }
     requires { ⌜ Spellable (now tables) (now text) (now codes) (now runs) n x ⌝ }
-    ensures { λ r. ⌜ ((xs : List ℕ) × Spelled (tablesOf (now (tables .entry))) (now (text .entry)) (now (codes .entry)) (now (runs .entry)) x xs × Wrote (now (out .entry)) at xs (now (out .exit)) r) ⌝ }
+    ensures { λ r. ⌜ ((xs : List ℕ) × Spelled (tablesOf (now (tables .entry))) (now (text .entry)) (now (codes .entry)) (now (runs .entry)) n x xs × Wrote (now (out .entry)) at xs (now (out .exit)) r) ⌝ }
     ensures { λ r. ⌜ r ≤ at + 2 * lineRoom ⌝ }
 {
+    if x.number == Refusal::LABEL_BAD {
+        return spell_bad(out, at, text, codes, tables, n, x.place);
+    }
     if x.number == Refusal::UNSUPPORTED {
         return spell_label(out, at, text, codes, tables, n, x.place);
     }
@@ -233,7 +312,7 @@ fn refuse(
 ) -> usize
     requires { ⌜ toldRoom ≤ length (now out) ⌝ }
     requires { ⌜ Spellable (now tables) (now text) (now codes) (now runs) n x ⌝ }
-    ensures { λ r. ⌜ ((xs : List ℕ) × Spelled (tablesOf (now (tables .entry))) (now (text .entry)) (now (codes .entry)) (now (runs .entry)) x xs ×
+    ensures { λ r. ⌜ ((xs : List ℕ) × Spelled (tablesOf (now (tables .entry))) (now (text .entry)) (now (codes .entry)) (now (runs .entry)) n x xs ×
         Wrote (now (out .entry)) 0 (refusalLine x ++ xs) (now (out .exit)) r) ⌝ }
     ensures { λ r. ⌜ r ≤ toldRoom ⌝ }
 {

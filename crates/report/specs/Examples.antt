@@ -1,13 +1,15 @@
 -- What the definitions come to: some lines written out.
 use mathlib.Core.Path.{_≡_, refl}
 use mathlib.Core.List.{List, []}
+use mathlib.Core.Bool.{true, false}
 use Rattle.kinds.specs.Refusals.{refusal, stopUnknown, overLimit, unsupported, gap}
 use Rattle.kinds.specs.declared.Code.{Code}
 use Rattle.printed.specs.Printed.{decimal, decimalIn}
 use Rattle.report.specs.Texts.{bytes}
 use Rattle.report.specs.Words.{wordsOf, refusalLine}
-use Rattle.report.specs.Lines.{labelLine, runLine, stopLine, writtenLine}
+use Rattle.report.specs.Lines.{labelLine, entryLine, runLine, stopLine, writtenLine, moreLine}
 use Rattle.report.specs.declared.Change.the-variants.{Direct, At}
+use Rattle.report.specs.declared.Pivot.the-variants as pivot
 
 at-a-line : refusalLine (refusal stopUnknown 7) ≡ bytes "refused 5 at line 7 of the timetable: no stop has this code\n"
 unfolding refusalLine wordsOf decimal decimalIn
@@ -44,6 +46,14 @@ a-label-of-a-run : labelLine (bytes "HUB MOOR QUAY-S") 0 moor hub 480 500 Direct
 unfolding labelLine hub moor decimal decimalIn
 a-label-of-a-run = refl
 
+a-bad-label : entryLine 0 true 1 9 480 500 pivot.No ≡ bytes "label 0: an out-label of stop 1, hub 9, leaves 480, arrives 500, no pivot\n"
+unfolding entryLine decimal decimalIn
+a-bad-label = refl
+
+another : entryLine 5 false 3 2 500 480 (pivot.At 7) ≡ bytes "label 5: an in-label of stop 3, hub 2, leaves 500, arrives 480, pivot 7\n"
+unfolding entryLine decimal decimalIn
+another = refl
+
 a-run : runLine (bytes "HUB MOOR QUAY-S") 0 moor hub 480 500 11 ≡ bytes "run 0: MOOR HUB 480 500 11\n"
 unfolding runLine hub moor decimal decimalIn
 a-run = refl
@@ -55,3 +65,7 @@ a-stop = refl
 a-build : writtenLine 4 6 6 54 ≡ bytes "written: 4 stops, 6 runs, 6 labels, 54 bytes\n"
 unfolding writtenLine decimal decimalIn
 a-build = refl
+
+a-long-file : moreLine (bytes "day.txt") 1048576 ≡ bytes "day.txt has more than 1048576 bytes\n"
+unfolding moreLine decimal decimalIn
+a-long-file = refl

@@ -1,6 +1,8 @@
 -- The other lines that the programs for people print.
 use Prim.Native.Nat.{ℕ}
+use Prim.Native.String.{String}
 use mathlib.Core.List.{List, [], _∷_}
+use mathlib.Core.Bool.{Bool, true, false}
 use Rattle.kinds.specs.declared.Code.{Code}
 use Rattle.words.specs.Words.{space}
 use Rattle.printed.specs.Printed.{decimal, codeOf}
@@ -8,6 +10,8 @@ use Rattle.printed.specs.Wrote.{CodeIn}
 use Rattle.report.specs.Texts.{bytes, counted, named, saying}
 use Rattle.report.specs.declared.Change.{Change}
 use Rattle.report.specs.declared.Change.the-variants.{Direct, At}
+use Rattle.report.specs.declared.Pivot.{Pivot}
+use Rattle.report.specs.declared.Pivot.the-variants as pivot
 
 -- "accepted"
 unfoldable pub acceptedLine : List ℕ
@@ -28,6 +32,21 @@ unfoldable pub labelLine : List ℕ → ℕ → Code → Code → ℕ → ℕ �
 labelLine s k from to dep arr change =
     saying (counted "label" k ∷ named ":" s from ∷ named " to" s to ∷ counted ", leaves" dep ∷ counted ", arrives" arr ∷ changeOf s change ∷ [])
 
+-- a label's pivot by its number, if it has one
+abbrev pub pivotWords : Pivot → List ℕ
+pivotWords pivot.No = bytes ", no pivot"
+pivotWords (pivot.At p) = counted ", pivot" p
+
+-- in which of its owner's two sets a label stands
+abbrev pub setWords : Bool → String
+setWords true = ": an out-label of stop"
+setWords false = ": an in-label of stop"
+
+-- "label 0: an out-label of stop 1, hub 9, leaves 480, arrives 500, no pivot": by its numbers, which where it is not good need not be stops and minutes
+unfoldable pub entryLine : ℕ → Bool → ℕ → ℕ → ℕ → ℕ → Pivot → List ℕ
+entryLine k out owner hub dep arr p =
+    saying (counted "label" k ∷ counted (setWords out) owner ∷ counted ", hub" hub ∷ counted ", leaves" dep ∷ counted ", arrives" arr ∷ pivotWords p ∷ [])
+
 -- "run 4: MOOR QUAY-N 490 540 15": as the timetable has it
 unfoldable pub runLine : List ℕ → ℕ → Code → Code → ℕ → ℕ → ℕ → List ℕ
 runLine s i from to dep arr trip =
@@ -42,6 +61,10 @@ unfoldable pub writtenLine : ℕ → ℕ → ℕ → ℕ → List ℕ
 writtenLine stops runs labels long =
     saying (counted "written:" stops ∷ counted " stops," runs ∷ counted " runs," labels ∷ counted " labels," long ∷ bytes " bytes" ∷ [])
 
--- room for any line
+-- "day.txt has more than 1048576 bytes"
+unfoldable pub moreLine : List ℕ → ℕ → List ℕ
+moreLine name most = saying (name ∷ counted " has more than" most ∷ bytes " bytes" ∷ [])
+
+-- room for any line, but for a file's name in it
 abbrev pub lineRoom : ℕ
 lineRoom = 280

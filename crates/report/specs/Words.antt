@@ -19,7 +19,7 @@ means n t = record { number = n; words = t }
 abbrev pub meanings : List Meaning
 meanings =
     means firstLine "the first line is not \"timetable 1\"" ∷
-    means lineShape "the line has no form that may stand here" ∷
+    means lineShape "the line is missing or unfinished, or has no form that may stand here" ∷
     means codeBad "the stop code is empty, too long, or holds a character that no code has" ∷
     means codeRepeated "an earlier stop has this code" ∷
     means stopUnknown "no stop has this code" ∷

@@ -15,7 +15,7 @@ ghost use Rattle.printed.specs.Printed.{mostDigits, decimal, codeOf};
 ghost use Rattle.printed.specs.Wrote.{Wrote, CodeIn};
 ghost use Rattle.report.specs.Texts.{counted};
 ghost use Rattle.report.specs.Words.{wordsOf, mostWords, linePlace, placeOf, refusalLine};
-ghost use Rattle.report.specs.Lines.{acceptedLine, changeOf, ChangeIn, labelLine, runLine, stopLine, writtenLine, lineRoom};
+ghost use Rattle.report.specs.Lines.{acceptedLine, changeOf, ChangeIn, labelLine, setWords, pivotWords, entryLine, runLine, stopLine, writtenLine, moreLine, lineRoom};
 
 // Room for any line.
 pub const LINE_ROOM: usize = 280;
@@ -31,6 +31,12 @@ pub fn line_room() -> usize
 pub enum Change {
     Direct,
     At(Code),
+}
+
+// A label's pivot by its number, if it has one.
+pub enum Pivot {
+    No,
+    At(u32),
 }
 
 // ---- Pieces.
@@ -76,7 +82,11 @@ fn put_text_words(out: &mut [u8], at: usize, number: u32) -> usize
         return put_text(out, at, b"the first line is not \"timetable 1\"");
     }
     if number == Refusal::LINE_SHAPE {
-        return put_text(out, at, b"the line has no form that may stand here");
+        return put_text(
+            out,
+            at,
+            b"the line is missing or unfinished, or has no form that may stand here",
+        );
     }
     if number == Refusal::CODE_BAD {
         return put_text(
@@ -307,6 +317,54 @@ pub fn label_line(
     put_lf(out, f)
 }
 
+// Whose label it is.
+fn put_set(out: &mut [u8], at: usize, outgoing: bool, owner: u32) -> usize
+    requires { ⌜ at + 40 ≤ length (now out) ⌝ }
+    ensures { λ r. ⌜ Wrote (now (out .entry)) at (counted (setWords outgoing) owner) (now (out .exit)) r ⌝ }
+    ensures { λ r. ⌜ r ≤ at + 40 ⌝ }
+{
+    if outgoing {
+        return put_counted(out, at, b": an out-label of stop", owner);
+    }
+    put_counted(out, at, b": an in-label of stop", owner)
+}
+
+fn put_pivot(out: &mut [u8], at: usize, pivot: Pivot) -> usize
+    requires { ⌜ at + 20 ≤ length (now out) ⌝ }
+    ensures { λ r. ⌜ Wrote (now (out .entry)) at (pivotWords pivot) (now (out .exit)) r ⌝ }
+    ensures { λ r. ⌜ r ≤ at + 20 ⌝ }
+{
+    match pivot {
+        Pivot::No => put_text(out, at, b", no pivot"),
+        Pivot::At(p) => put_counted(out, at, b", pivot", p),
+    }
+}
+
+// "label K: an out-label of stop OWNER, hub HUB, leaves DEP, arrives ARR, pivot P"
+pub fn entry_line(
+    out: &mut [u8],
+    at: usize,
+    k: u32,
+    outgoing: bool,
+    owner: u32,
+    hub: u32,
+    dep: u32,
+    arr: u32,
+    pivot: Pivot,
+) -> usize
+    requires { ⌜ at + lineRoom ≤ length (now out) ⌝ }
+    ensures { λ r. ⌜ Wrote (now (out .entry)) at (entryLine k outgoing owner hub dep arr pivot) (now (out .exit)) r ⌝ }
+    ensures { λ r. ⌜ r ≤ at + lineRoom ⌝ }
+{
+    let a = put_counted(out, at, b"label", k);
+    let b = put_set(out, a, outgoing, owner);
+    let c = put_counted(out, b, b", hub", hub);
+    let d = put_counted(out, c, b", leaves", dep);
+    let e = put_counted(out, d, b", arrives", arr);
+    let f = put_pivot(out, e, pivot);
+    put_lf(out, f)
+}
+
 // "run I: FROM TO DEP ARR TRIP"
 pub fn run_line(
     out: &mut [u8],
@@ -364,4 +422,16 @@ pub fn written_line(
     let d = put_counted(out, c, b" labels,", long);
     let e = put_text(out, d, b" bytes");
     put_lf(out, e)
+}
+
+// "NAME has more than MOST bytes"
+pub fn more_line(out: &mut [u8], at: usize, name: &[u8], most: u32) -> usize
+    requires { ⌜ at + length (now name) + lineRoom ≤ length (now out) ⌝ }
+    ensures { λ r. ⌜ Wrote (now (out .entry)) at (moreLine (now (name .entry)) most) (now (out .exit)) r ⌝ }
+    ensures { λ r. ⌜ r ≤ at + length (now (name .entry)) + lineRoom ⌝ }
+{
+    let a = put_text(out, at, name);
+    let b = put_counted(out, a, b" has more than", most);
+    let c = put_text(out, b, b" bytes");
+    put_lf(out, c)
 }

@@ -16,7 +16,7 @@ use Rattle.kinds.specs.declared.Label.{Label}
 use Rattle.journeys.specs.Tables.{Side, outs, ins, Tables, Entry, GoodTables}
 use Rattle.tables.specs.File.{stopsOf, setOf, ownerOf, countOf, startOf, endOf, labelsOf, labelAt, pivotOf, tablesOf}
 use Rattle.tables.specs.FileLaws.{end-within, set-within}
-use Rattle.tables.specs.Good.{After, higher, later, LabelGood, GoodFile}
+use Rattle.tables.specs.Good.{After, higher, later, LabelGood, Room, GoodFile}
 use Rattle.tables.specs.GoodLaws.{after-trans}
 
 -- ---- pivots
@@ -79,6 +79,23 @@ set-one ins ins s s′ e = (refl, omega arith)
 set-one outs ins s s′ e = absurd (omega arith)
 set-one ins outs s s′ e = absurd (omega arith)
 
+-- the label that is read between the bounds of a set is an entry of the tables, good or not
+pub room-entry : {b : List ℕ} {n : ℕ} → Room b n → (side : Side) (s k : ℕ) → s < n → tablesOf b .start side s ≤ k → k < tablesOf b .end side s →
+    Entry (tablesOf b) side k s (labelAt b k .hub) (labelAt b k .dep) (labelAt b k .arr) (pivotOf (labelAt b k .pivot))
+unfolding tablesOf
+room-entry g side s k lt low high = record { owner = omega (arith, g .contents .stops); low = low; high = high; hub = refl; dep = refl; arr = refl; pivot = refl }
+
+-- a label stands in one set only
+pub entry-only : (b : List ℕ) {side side′ : Side} {k s h d a s′ h′ d′ a′ : ℕ} {p p′ : Option ℕ} → Entry (tablesOf b) side k s h d a p → Entry (tablesOf b) side′ k s′ h′ d′ a′ p′ →
+    (side ≡ side′) × (s ≡ s′)
+unfolding tablesOf
+entry-only b {side} {side′} {k} {s} {s′ = s′} x y = set-one side side′ s s′ (go (decLt (setOf side s) (setOf side′ s′)) (decLt (setOf side′ s′) (setOf side s)))
+  where
+    go : Dec (setOf side s < setOf side′ s′) → Dec (setOf side′ s′ < setOf side s) → setOf side s ≡ setOf side′ s′
+    go (yes lt) d = absurd (omega (arith, end-within b _ _ lt, x .high, y .low))
+    go (no ge) (yes lt) = absurd (omega (arith, end-within b _ _ lt, y .high, x .low))
+    go (no ge) (no le) = omega arith
+
 module _ {b : List ℕ} {n : ℕ} (g : GoodFile b n) where
   pub good-stops : tablesOf b .stops ≡ n
   unfolding tablesOf
@@ -89,23 +106,14 @@ module _ {b : List ℕ} {n : ℕ} (g : GoodFile b n) where
   unfolding tablesOf
   tables-within side s lt = set-within (g .room .contents) (set-below side s n lt)
 
-  -- the label that is read between the bounds of a set is an entry of the tables
   pub entry-read : (side : Side) (s k : ℕ) → s < n → tablesOf b .start side s ≤ k → k < tablesOf b .end side s →
       Entry (tablesOf b) side k s (labelAt b k .hub) (labelAt b k .dep) (labelAt b k .arr) (pivotOf (labelAt b k .pivot))
-  unfolding tablesOf
-  entry-read side s k lt low high =
-      record { owner = omega (arith, g .room .contents .stops); low = low; high = high; hub = refl; dep = refl; arr = refl; pivot = refl }
+  entry-read side s k lt low high = room-entry (g .room) side s k lt low high
 
-  -- and of one set only
+  -- an entry is one of one set only
   pub entry-one : {side side′ : Side} {k s h d a s′ h′ d′ a′ : ℕ} {p p′ : Option ℕ} → Entry (tablesOf b) side k s h d a p → Entry (tablesOf b) side′ k s′ h′ d′ a′ p′ →
       (side ≡ side′) × (s ≡ s′)
-  unfolding tablesOf
-  entry-one {side} {side′} {k} {s} {s′ = s′} x y = set-one side side′ s s′ (go (decLt (setOf side s) (setOf side′ s′)) (decLt (setOf side′ s′) (setOf side s)))
-    where
-      go : Dec (setOf side s < setOf side′ s′) → Dec (setOf side′ s′ < setOf side s) → setOf side s ≡ setOf side′ s′
-      go (yes lt) d = absurd (omega (arith, end-within b _ _ lt, x .high, y .low))
-      go (no ge) (yes lt) = absurd (omega (arith, end-within b _ _ lt, y .high, x .low))
-      go (no ge) (no le) = omega arith
+  entry-one x y = entry-only b x y
 
   -- labels of one set rise
   pub rises : (set i k : ℕ) → set < 2 * n → i < k → k < countOf b set → After (labelAt b (startOf b set + i)) (labelAt b (startOf b set + k))

@@ -65,7 +65,8 @@ fn pivot_read(x: u8) -> u16
     x as u16
 }
 
-fn stop_count(bytes: &[u8]) -> u16
+// How many stops a file is for, whether its tables are good or not.
+pub fn stop_count(bytes: &[u8]) -> u16
     requires { ⌜ headerBytes ≤ length (now bytes) ⌝ }
     ensures { λ r. ⌜ r ≡ stopsOf (now (bytes .entry)) ⌝ }
 {

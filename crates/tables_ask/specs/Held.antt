@@ -1,6 +1,10 @@
 -- The text and, behind it, the asks are held in one room.
 use Prim.Native.Nat.{ℕ, _+_}
-use Rattle.kinds.specs.Limits.{mostText, mostInput}
+use mathlib.Core.List.{List}
+use lib.ListN.{take}
+use Rattle.kinds.specs.Limits.{mostText, mostInput, runsRoom, codesRoom}
+use Rattle.ground.specs.Ground.{groundRoom}
+use Rattle.desk.specs.Told.{Accepts}
 use Rattle.output.specs.declared.Sizes.{Sizes}
 use Rattle.output.specs.declared.Turn.{Turn}
 
@@ -11,6 +15,10 @@ heldRoom = mostText + 1 + (mostInput + 1)
 -- so much is in use, with a text and tables of so many bytes
 abbrev pub sizesOf : ℕ → ℕ → ℕ → ℕ → Sizes
 sizesOf stops count text tables = record { stops = stops; runs = count; text = text; tables = tables }
+
+-- the tables are accepted against the text that stands before the asks in the input
+abbrev pub AcceptedFor : List ℕ → List ℕ → Sizes → Type 0
+AcceptedFor input tables z = Accepts (take (z .text) input) tables runsRoom codesRoom groundRoom (record { stops = z .stops; runs = z .runs })
 
 -- the first ask line follows the text
 abbrev pub firstTurn : ℕ → Turn

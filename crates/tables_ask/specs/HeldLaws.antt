@@ -6,9 +6,12 @@ use native.Mathlib.Omega.{arith}
 use lib.ListN.{length, take, replicate, length-replicate}
 use lib.Seq.{length-take-le}
 use Rattle.kinds.specs.Limits.{mostText, mostInput, runsRoom, codesRoom, lastMinute}
+use Rattle.reader.specs.declared.Counts.{Counts}
 use Rattle.reader.specs.TextLaws.{GoodRead}
+use Rattle.ground.specs.Ground.{groundRoom}
+use Rattle.desk.specs.Told.{Accepts}
 use Rattle.output.specs.Steps.{Ready}
-use Rattle.tables_ask.specs.Held.{sizesOf, firstTurn}
+use Rattle.tables_ask.specs.Held.{sizesOf, AcceptedFor, firstTurn}
 
 -- the first n of the first m
 take-fewer : (n m : ℕ) (l : List ℕ) → n ≤ m → take n (take m l) ≡ take n l
@@ -16,6 +19,13 @@ take-fewer zero m l le = refl
 take-fewer (suc n) zero l le = absurd (omega arith)
 take-fewer (suc n) (suc m) [] le = refl
 take-fewer (suc n) (suc m) (x ∷ l) le = ap (λ (r : List ℕ). x ∷ r) (take-fewer n m l (omega arith))
+
+-- what was accepted against the text stays so when the asks are read behind it
+pub still-accepted : (held later : List ℕ) (n k : ℕ) {tables : List ℕ} {c : Counts} → Accepts (take n held) tables runsRoom codesRoom groundRoom c → take n later ≡ take n held →
+    AcceptedFor (take (n + k) later) tables (sizesOf (c .stops) (c .runs) n (length tables))
+still-accepted held later n k {tables} {c} a same =
+    let text : take n (take (n + k) later) ≡ take n held = take-fewer n (n + k) later (omega arith) ∙ same in
+    rw text a
 
 -- The room held the text, n bytes, and nothing else was known of it; then k bytes were read behind the text, which stayed.
 module _ (held later : List ℕ) (n k : ℕ) {runs codes : List ℕ} {stops count : ℕ} (g : GoodRead (take n held) runsRoom codesRoom stops count runs codes) (same : take n later ≡ take n held)

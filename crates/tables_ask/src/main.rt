@@ -18,7 +18,7 @@ ghost use lib.ListN.{length, take, replicate};
 ghost use Rattle.kinds.specs.Limits.{mostText, mostInput, lastMinute};
 ghost use Rattle.files.specs.Files.{ReadWithin};
 ghost use Rattle.output.specs.Steps.{Ready};
-ghost use Rattle.tables_ask.specs.Held.{heldRoom, sizesOf, firstTurn};
+ghost use Rattle.tables_ask.specs.Held.{heldRoom, AcceptedFor};
 
 // Room for the text and, behind it, the asks; of each one byte more than there may be, which tells what is too long.
 fn held_room() -> [u8; Text::MOST + 1 + (Text::INPUT_MOST + 1)]
@@ -33,7 +33,7 @@ fn read_text(held: &mut [u8]) -> FileRead
     ensures { λ r. ⌜ ReadWithin (mostText + 1) r ⌝ }
 {
     let end = Text::MOST + 1;
-    files::read_named(1, &mut held[..end])
+    files::read_named(1, Text::MOST as u32, &mut held[..end])
 }
 
 // The asks, read behind the text. The text stays.
@@ -46,9 +46,10 @@ fn read_asks(held: &mut [u8], n: usize) -> usize
     io::read_full(STDIN_FILENO, &mut held[n..end])
 }
 
-// Everything from the first ask line on.
+// What the asks get, from the first line on; only accepted tables answer.
 fn answer(input: &[u8], runs: &[u32], codes: &[u32], tables: &[u8], sizes: Sizes, first: Turn)
     requires { ⌜ Ready (now input) (now runs) (now codes) (now tables) (replicate lastMinute 0) sizes first ⌝ }
+    requires { ⌜ AcceptedFor (now input) (now tables) sizes ⌝ }
 {
     let mut list = [0u32; Minute::LAST as usize];
     let mut out = [0u8; printed::LINE_ROOM];
@@ -65,10 +66,10 @@ fn answer(input: &[u8], runs: &[u32], codes: &[u32], tables: &[u8], sizes: Sizes
 
 // More asks than the program holds get one answer.
 fn refuse_asks() {
-    let mut out = [0u8; report::LINE_ROOM];
-    let told = report::refusal_line(&mut out, 0, Refusal::new(Refusal::OVER_LIMIT, 0));
-    io::write_all(STDOUT_FILENO, &out[..told]);
-    files::say_more(b"standard input", Text::INPUT_MOST);
+    let mut out = [0u8; desk::TOLD_ROOM];
+    let a = report::more_line(&mut out, 0, b"standard input", Text::INPUT_MOST as u32);
+    let b = report::refusal_line(&mut out, a, Refusal::new(Refusal::OVER_LIMIT, 0));
+    io::write_all(STDOUT_FILENO, &out[..b]);
 }
 
 // The check, and then the asks. The first n bytes of the room are the text.
@@ -120,7 +121,7 @@ fn serve(held: &mut [u8], n: usize, tables: &[u8])
 }
 
 fn main() {
-    if !files::has_words(3, b"tables_ask TIMETABLE TABLES") {
+    if !files::has_words(os::arg_count(), 3, b"tables_ask TIMETABLE TABLES") {
         return;
     }
     let mut held = held_room();
@@ -128,14 +129,8 @@ fn main() {
         return;
     };
     let mut tables = desk::tables_room();
-    let FileRead::Read(m) = files::read_named(2, &mut tables) else {
+    let FileRead::Read(m) = files::read_named(2, tables::FILE_ROOM as u32, &mut tables) else {
         return;
     };
     serve(&mut held, n, &tables[..m]);
-    if Text::MOST < n {
-        files::say_long(1, Text::MOST);
-    }
-    if tables::FILE_ROOM < m {
-        files::say_long(2, tables::FILE_ROOM);
-    }
 }

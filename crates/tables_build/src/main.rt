@@ -5,13 +5,20 @@ use files::FileRead;
 use kinds::Text;
 use libc::STDOUT_FILENO;
 
-// One byte more of the text is read than it may have: that tells a longer text from one that fits.
+// The tables, as the file that the second word names.
+fn save(tables: &[u8]) -> bool {
+    let mut path = io::buffer();
+    let n = os::arg(2, &mut path);
+    files::write(&path[..n], tables)
+}
+
+// Only tables that were written are told of.
 fn main() {
-    if !files::has_words(3, b"tables_build TIMETABLE TABLES") {
+    if !files::has_words(os::arg_count(), 3, b"tables_build TIMETABLE TABLES") {
         return;
     }
     let mut text = desk::text_room();
-    let FileRead::Read(n) = files::read_named(1, &mut text) else {
+    let FileRead::Read(n) = files::read_named(1, Text::MOST as u32, &mut text) else {
         return;
     };
     let mut tables = desk::tables_room();
@@ -19,15 +26,12 @@ fn main() {
     let made = desk::built(&text[..n], &mut tables, &mut out);
     match made {
         Made::Tables(long, told) => {
-            if files::write_named(2, &tables[..long]) {
+            if save(&tables[..long]) {
                 io::write_all(STDOUT_FILENO, &out[..told]);
             }
         }
         Made::No(told) => {
             io::write_all(STDOUT_FILENO, &out[..told]);
         }
-    }
-    if Text::MOST < n {
-        files::say_long(1, Text::MOST);
     }
 }

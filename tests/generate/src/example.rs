@@ -46,7 +46,12 @@ pub fn day() -> Day {
 
 /// The tables of T, 54 bytes.
 pub fn tables() -> Vec<u8> {
-    let digits: Vec<u8> = TABLES_HEX.bytes().filter(|b| !b.is_ascii_whitespace()).collect();
+    from_hex(TABLES_HEX)
+}
+
+/// The bytes that a text in hex digits stands for.
+pub fn from_hex(text: &str) -> Vec<u8> {
+    let digits: Vec<u8> = text.bytes().filter(|b| !b.is_ascii_whitespace()).collect();
     digits
         .chunks(2)
         .map(|two| u8::from_str_radix(std::str::from_utf8(two).unwrap(), 16).unwrap())

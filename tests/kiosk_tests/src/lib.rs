@@ -1,5 +1,9 @@
-//! The static library and the program as subjects of the suite.
+//! The static library and the programs as subjects of the tests.
 
+#[cfg(feature = "people")]
+pub mod people;
+#[cfg(any(feature = "journey", feature = "people"))]
+pub mod process;
 #[cfg(feature = "journey")]
 pub mod program;
 

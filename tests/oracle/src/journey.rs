@@ -32,6 +32,11 @@ pub fn output(input: &[u8]) -> Vec<u8> {
         Err(Refusal { number, place, .. }) => return format!("no {number} {place}\n").into_bytes(),
         Ok(both) => both,
     };
+    answers(head, &timetable, &tables, asks)
+}
+
+/// What these ask lines get, over any tables for the timetable of this text.
+pub fn answers(head: &[u8], timetable: &Timetable, tables: &Tables, asks: &[u8]) -> Vec<u8> {
     let day = timetable.day();
     let mut printed = Vec::new();
     // The same line has the same answer.
@@ -43,7 +48,7 @@ pub fn output(input: &[u8]) -> Vec<u8> {
         }
         let answer = known
             .entry(line.bytes)
-            .or_insert_with(|| answer(head, &timetable, &day, &tables, line.bytes));
+            .or_insert_with(|| answer(head, timetable, &day, tables, line.bytes));
         printed.extend_from_slice(answer);
     }
     printed

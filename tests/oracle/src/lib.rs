@@ -14,12 +14,14 @@
 //! * [`verdict`]: the check;
 //! * [`calls`]: what each call over the C boundary leaves in the answer and in
 //!   every lent buffer;
-//! * [`journey`]: the program, input bytes to output bytes.
+//! * [`journey`]: the program, input bytes to output bytes;
+//! * [`people`]: the programs for people, what they say of their files.
 
 pub mod calls;
 pub mod journey;
 pub mod journeys;
 pub mod kinds;
+pub mod people;
 pub mod rides;
 pub mod rule;
 pub mod tables;

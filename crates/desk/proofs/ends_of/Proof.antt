@@ -1,44 +1,29 @@
 use mathlib.Core.Path.{ap}
-use native.Mathlib.Omega.{arith}
 use Rattle.kinds.specs.declared.Label.{Label}
-use Rattle.tables.specs.declared.Bounds.{Bounds}
-use Rattle.desk.specs.SpelledLaws.{label-out, label-in}
+use Rattle.journeys.specs.Tables.{of-out, of-in}
 use borrow.Author.Needs.{needs}
 use Rattle.desk.proofs.ends_of.Statement.{statement}
 use Rattle.desk.proofs.ends_of.Tie as tie
 use Rattle.desk.proofs.ends_of.Reads as reads
 use Rattle.desk.proofs.ends_of.Lts as lts
-use Rattle.desk.proofs.owner_of.Reads as owner-of-reads
+use Rattle.desk.proofs.set_of.Reads as set-of-reads
 use Rattle.tables.proofs.label_at.Reads as label-at-reads
-use Rattle.tables.proofs.outs_of.Reads as outs-of-reads
-
-owner-of-requires : tie.Need-owner-of-requires
-owner-of-requires c κs = search needs
 
 label-at-requires : tie.Need-label-at-requires
 label-at-requires c κs = search needs
 
-outs-of-requires : tie.Need-outs-of-requires
-outs-of-requires c κs = search needs
+set-of-requires : tie.Need-set-of-requires
+set-of-requires c κs = search needs
 
 returns : tie.Need-returns
 returns c =
-    let o = c .before .before in
-    let l = o .before in
-    let w = l .before in
-    let z = w .before .before in
-    rw (ap (λ (x : Label). x .hub) (l .label-at .ensures))
-    (label-out (z .pre .0) (w .owner-of .result) (z .args .k) (w .owner-of .ensures .0) (w .owner-of .ensures .1) (omega (arith, c .if1 .taken, ap (λ (x : Bounds). x .end) (o .outs-of .ensures))))
+    let s = c .before in
+    rw (ap (λ (x : Label). x .hub) (s .before .label-at .ensures)) (of-out (rw (c .if1 .taken) at (s .set-of .ensures)))
 
 returns-2 : tie.Need-returns-2
 returns-2 c =
-    let o = c .before .before in
-    let l = o .before in
-    let w = l .before in
-    let z = w .before .before in
-    rw (ap (λ (x : Label). x .hub) (l .label-at .ensures))
-    (label-in (z .pre .0) (w .owner-of .result) (z .args .k) (w .owner-of .ensures .0) (omega (arith, c .if1 .left, ap (λ (x : Bounds). x .end) (o .outs-of .ensures))) (w .owner-of .ensures .2))
+    let s = c .before in
+    rw (ap (λ (x : Label). x .hub) (s .before .label-at .ensures)) (of-in (rw (c .if1 .left) at (s .set-of .ensures)))
 
 pub ends-of-spec : {M : Type 1} → statement M
-ends-of-spec =
-    tie.close (tie.spec owner-of-requires label-at-requires outs-of-requires returns returns-2)
+ends-of-spec = tie.close (tie.spec label-at-requires set-of-requires returns returns-2)

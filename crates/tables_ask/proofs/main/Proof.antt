@@ -9,10 +9,13 @@ use Rattle.tables_ask.proofs.main.Lts as lts
 use Rattle.desk.proofs.tables_room.Reads as tables-room-reads
 use Rattle.files.proofs.has_words.Reads as has-words-reads
 use Rattle.files.proofs.read_named.Reads as read-named-reads
-use Rattle.files.proofs.say_long.Reads as say-long-reads
+use Rattle.os.proofs.arg_count.Reads as arg-count-reads
 use Rattle.tables_ask.proofs.held_room.Reads as held-room-reads
 use Rattle.tables_ask.proofs.read_text.Reads as read-text-reads
 use Rattle.tables_ask.proofs.serve.Reads as serve-reads
+
+arg-count-requires : tie.Need-arg-count-requires
+arg-count-requires c κs = search needs
 
 slice-aggregate-has-words : tie.Need-slice-aggregate-has-words
 slice-aggregate-has-words c = search needs
@@ -44,6 +47,9 @@ returns-2 c = search needs
 tables-room-requires : tie.Need-tables-room-requires
 tables-room-requires c κs = search needs
 
+cast-read-named : tie.Need-cast-read-named
+cast-read-named c = search needs
+
 slice-aggregate-read-named : tie.Need-slice-aggregate-read-named
 slice-aggregate-read-named c = search needs
 
@@ -72,7 +78,7 @@ slice-aggregate-serve-2 : tie.Need-slice-aggregate-serve-2
 slice-aggregate-serve-2 c =
     let k = c .before .before .before in
     let r = k .before .before .before in
-    sym (length-take-le _ (r .read-named .last .1 .0) (rw (k .m .given .1) at (r .read-named .ensures)))
+    sym (length-take-le _ (r .read-named .last .1 .1 .0) (rw (k .m .given .1) at (r .read-named .ensures)))
 
 serve-requires : tie.Need-serve-requires
 serve-requires c κs =
@@ -80,22 +86,14 @@ serve-requires c κs =
     let r = k .before .before .before in
     (omega (arith, r .read-text .kept .0, r .before .before .held-room .ensures), rw (k .n .given .1) at (r .read-text .ensures))
 
-say-long-requires : tie.Need-say-long-requires
-say-long-requires c κs = search needs
-
-say-long-requires-2 : tie.Need-say-long-requires-2
-say-long-requires-2 c κs = search needs
-
 returns-4 : tie.Need-returns-4
 returns-4 c = search needs
-
-returns-5 : tie.Need-returns-5
-returns-5 c = search needs
 
 pub main-spec : {M : Type 1} → statement M
 main-spec =
     tie.close
     (tie.spec
+    arg-count-requires
     slice-aggregate-has-words
     has-words-requires
     returns
@@ -106,6 +104,7 @@ main-spec =
     enum-told
     returns-2
     tables-room-requires
+    cast-read-named
     slice-aggregate-read-named
     read-named-requires
     enum-known-m
@@ -115,7 +114,4 @@ main-spec =
     array-share-prefix-tables
     slice-aggregate-serve-2
     serve-requires
-    say-long-requires
-    say-long-requires-2
-    returns-4
-    returns-5)
+    returns-4)

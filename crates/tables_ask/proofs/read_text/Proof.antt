@@ -14,6 +14,9 @@ use Rattle.files.proofs.read_named.Reads as read-named-reads
 add-end : tie.Need-add-end
 add-end c = search needs
 
+cast-read-named : tie.Need-cast-read-named
+cast-read-named c = search needs
+
 slice-relend-prefix-read-named : tie.Need-slice-relend-prefix-read-named
 slice-relend-prefix-read-named c = search needs
 
@@ -32,13 +35,14 @@ returns : tie.Need-returns
 returns c =
     let k = c .before .before in
     let z = k .before .before .before in
-    subst (λ (m : ℕ). ReadWithin m (k .read-named .result)) (k .read-named .kept .1 .0 ∙ length-take-le (mostText + 1) (z .args .held .now) (omega (arith, z .pre))) (k .read-named .ensures)
+    subst (λ (m : ℕ). ReadWithin m (k .read-named .result)) (k .read-named .kept .1 .1 .0 ∙ length-take-le (mostText + 1) (z .args .held .now) (omega (arith, z .pre))) (k .read-named .ensures)
 
 pub read-text-spec : {M : Type 1} → statement M
 read-text-spec =
     tie.close
     (tie.spec
     add-end
+    cast-read-named
     slice-relend-prefix-read-named
     slice-aggregate-read-named
     read-named-requires

@@ -6,10 +6,22 @@ use Rattle.tables_ask.proofs.refuse_asks.Statement.{statement}
 use Rattle.tables_ask.proofs.refuse_asks.Tie as tie
 use Rattle.tables_ask.proofs.refuse_asks.Reads as reads
 use Rattle.tables_ask.proofs.refuse_asks.Lts as lts
-use Rattle.files.proofs.say_more.Reads as say-more-reads
 use Rattle.io.proofs.write_all.Reads as write-all-reads
 use Rattle.kinds.proofs.Refusal.new.Reads as new-reads
+use Rattle.report.proofs.more_line.Reads as more-line-reads
 use Rattle.report.proofs.refusal_line.Reads as refusal-line-reads
+
+slice-aggregate-more-line : tie.Need-slice-aggregate-more-line
+slice-aggregate-more-line c = search needs
+
+slice-aggregate-more-line-2 : tie.Need-slice-aggregate-more-line-2
+slice-aggregate-more-line-2 c = search needs
+
+cast-more-line : tie.Need-cast-more-line
+cast-more-line c = search needs
+
+more-line-requires : tie.Need-more-line-requires
+more-line-requires c κs = search needs
 
 slice-aggregate-refusal-line : tie.Need-slice-aggregate-refusal-line
 slice-aggregate-refusal-line c = search needs
@@ -31,12 +43,6 @@ slice-aggregate-write-all c =
 write-all-requires : tie.Need-write-all-requires
 write-all-requires c κs = search needs
 
-slice-aggregate-say-more : tie.Need-slice-aggregate-say-more
-slice-aggregate-say-more c = search needs
-
-say-more-requires : tie.Need-say-more-requires
-say-more-requires c κs = search needs
-
 returns : tie.Need-returns
 returns c = search needs
 
@@ -44,12 +50,14 @@ pub refuse-asks-spec : {M : Type 1} → statement M
 refuse-asks-spec =
     tie.close
     (tie.spec
+    slice-aggregate-more-line
+    slice-aggregate-more-line-2
+    cast-more-line
+    more-line-requires
     slice-aggregate-refusal-line
     new-requires
     refusal-line-requires
     array-share-prefix-out
     slice-aggregate-write-all
     write-all-requires
-    slice-aggregate-say-more
-    say-more-requires
     returns)

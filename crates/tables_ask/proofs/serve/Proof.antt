@@ -3,8 +3,8 @@ use mathlib.Core.Path.{sym}
 use native.Mathlib.Omega.{arith}
 use lib.ListN.{length}
 use lib.Seq.{length-take-le}
-use Rattle.desk.specs.ToldLaws.{admitted-read}
-use Rattle.tables_ask.specs.HeldLaws.{can-answer}
+use Rattle.desk.specs.ToldLaws.{admitted-read, admitted-accepts}
+use Rattle.tables_ask.specs.HeldLaws.{can-answer, still-accepted}
 use borrow.Author.Needs.{needs}
 use Rattle.tables_ask.proofs.serve.Statement.{statement}
 use Rattle.tables_ask.proofs.serve.Tie as tie
@@ -100,9 +100,11 @@ answer-requires c κs =
     let a = v .before .before .before .before .before .before in
     let z = a .before .before .before .before .before .before .before .before in
     let g = admitted-read (a .admit .ensures .0) (v .admitted2 .given .1) (a .admit .ensures .1 .1 .0) (a .admit .ensures .1 .1 .1 .0) in
-    let l = length-take-le (z .args .n) (z .args .held .now) (omega (arith, z .pre .0, z .pre .1)) in
-    can-answer (z .args .held .now) (q .read-asks .last .0) (z .args .n) (q .read-asks .result) (g .0) (q .read-asks .ensures .1) (omega (arith, g .1, l)) (e .if1 .left)
-    (omega (arith, z .pre .0, z .pre .1, q .read-asks .ensures .0, q .read-asks .kept .0)) (z .args .tables .now)
+    let l = length-take-le (z .args .n) (z .args .held .now) (omega (arith, z .pre .0, z .pre .1)) in (
+      can-answer (z .args .held .now) (q .read-asks .last .0) (z .args .n) (q .read-asks .result) (g .0) (q .read-asks .ensures .1) (omega (arith, g .1, l)) (e .if1 .left)
+          (omega (arith, z .pre .0, z .pre .1, q .read-asks .ensures .0, q .read-asks .kept .0)) (z .args .tables .now),
+      still-accepted (z .args .held .now) (q .read-asks .last .0) (z .args .n) (q .read-asks .result) (admitted-accepts (a .admit .ensures .0) (v .admitted2 .given .1)) (q .read-asks .ensures .1),
+    )
 
 same-length-2 : tie.Need-same-length-2
 same-length-2 c = search needs

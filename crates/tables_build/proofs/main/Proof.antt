@@ -11,9 +11,12 @@ use Rattle.desk.proofs.tables_room.Reads as tables-room-reads
 use Rattle.desk.proofs.text_room.Reads as text-room-reads
 use Rattle.files.proofs.has_words.Reads as has-words-reads
 use Rattle.files.proofs.read_named.Reads as read-named-reads
-use Rattle.files.proofs.say_long.Reads as say-long-reads
-use Rattle.files.proofs.write_named.Reads as write-named-reads
 use Rattle.io.proofs.write_all.Reads as write-all-reads
+use Rattle.os.proofs.arg_count.Reads as arg-count-reads
+use Rattle.tables_build.proofs.save.Reads as save-reads
+
+arg-count-requires : tie.Need-arg-count-requires
+arg-count-requires c κs = search needs
 
 slice-aggregate-has-words : tie.Need-slice-aggregate-has-words
 slice-aggregate-has-words c = search needs
@@ -26,6 +29,9 @@ returns c = search needs
 
 text-room-requires : tie.Need-text-room-requires
 text-room-requires c κs = search needs
+
+cast-read-named : tie.Need-cast-read-named
+cast-read-named c = search needs
 
 slice-aggregate-read-named : tie.Need-slice-aggregate-read-named
 slice-aggregate-read-named c = search needs
@@ -76,15 +82,15 @@ array-share-prefix-tables c =
     let s = rw (v .made .given .1) at (h .built .ensures .1) in
     omega (arith, s .0, h .built .kept .1 .0)
 
-slice-aggregate-write-named : tie.Need-slice-aggregate-write-named
-slice-aggregate-write-named c =
+slice-aggregate-save : tie.Need-slice-aggregate-save
+slice-aggregate-save c =
     let v = c .before .before in
     let h = v .before .before .before .before in
     let s = rw (v .made .given .1) at (h .built .ensures .1) in
     sym (length-take-le _ (h .built .last .1 .0) (omega (arith, s .0, h .built .kept .1 .0)))
 
-write-named-requires : tie.Need-write-named-requires
-write-named-requires c κs = search needs
+save-requires : tie.Need-save-requires
+save-requires c κs = search needs
 
 array-share-prefix-out : tie.Need-array-share-prefix-out
 array-share-prefix-out c =
@@ -123,23 +129,25 @@ slice-aggregate-write-all-2 c =
 write-all-requires-2 : tie.Need-write-all-requires-2
 write-all-requires-2 c κs = search needs
 
-say-long-requires : tie.Need-say-long-requires
-say-long-requires c κs = search needs
-
 returns-3 : tie.Need-returns-3
 returns-3 c = search needs
 
 returns-4 : tie.Need-returns-4
 returns-4 c = search needs
 
+returns-5 : tie.Need-returns-5
+returns-5 c = search needs
+
 pub main-spec : {M : Type 1} → statement M
 main-spec =
     tie.close
     (tie.spec
+    arg-count-requires
     slice-aggregate-has-words
     has-words-requires
     returns
     text-room-requires
+    cast-read-named
     slice-aggregate-read-named
     read-named-requires
     enum-known-n
@@ -153,8 +161,8 @@ main-spec =
     built-requires
     enum-known-made
     array-share-prefix-tables
-    slice-aggregate-write-named
-    write-named-requires
+    slice-aggregate-save
+    save-requires
     array-share-prefix-out
     slice-aggregate-write-all
     write-all-requires
@@ -162,6 +170,6 @@ main-spec =
     array-share-prefix-out-2
     slice-aggregate-write-all-2
     write-all-requires-2
-    say-long-requires
     returns-3
-    returns-4)
+    returns-4
+    returns-5)

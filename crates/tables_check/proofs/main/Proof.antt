@@ -11,8 +11,11 @@ use Rattle.desk.proofs.tables_room.Reads as tables-room-reads
 use Rattle.desk.proofs.text_room.Reads as text-room-reads
 use Rattle.files.proofs.has_words.Reads as has-words-reads
 use Rattle.files.proofs.read_named.Reads as read-named-reads
-use Rattle.files.proofs.say_long.Reads as say-long-reads
 use Rattle.io.proofs.write_all.Reads as write-all-reads
+use Rattle.os.proofs.arg_count.Reads as arg-count-reads
+
+arg-count-requires : tie.Need-arg-count-requires
+arg-count-requires c κs = search needs
 
 slice-aggregate-has-words : tie.Need-slice-aggregate-has-words
 slice-aggregate-has-words c = search needs
@@ -25,6 +28,9 @@ returns c = search needs
 
 text-room-requires : tie.Need-text-room-requires
 text-room-requires c κs = search needs
+
+cast-read-named : tie.Need-cast-read-named
+cast-read-named c = search needs
 
 slice-aggregate-read-named : tie.Need-slice-aggregate-read-named
 slice-aggregate-read-named c = search needs
@@ -43,6 +49,9 @@ returns-2 c = search needs
 
 tables-room-requires : tie.Need-tables-room-requires
 tables-room-requires c κs = search needs
+
+cast-read-named-2 : tie.Need-cast-read-named-2
+cast-read-named-2 c = search needs
 
 slice-aggregate-read-named-2 : tie.Need-slice-aggregate-read-named-2
 slice-aggregate-read-named-2 c = search needs
@@ -100,32 +109,26 @@ slice-aggregate-write-all c =
 write-all-requires : tie.Need-write-all-requires
 write-all-requires c κs = search needs
 
-say-long-requires : tie.Need-say-long-requires
-say-long-requires c κs = search needs
-
-say-long-requires-2 : tie.Need-say-long-requires-2
-say-long-requires-2 c κs = search needs
-
 returns-4 : tie.Need-returns-4
 returns-4 c = search needs
-
-returns-5 : tie.Need-returns-5
-returns-5 c = search needs
 
 pub main-spec : {M : Type 1} → statement M
 main-spec =
     tie.close
     (tie.spec
+    arg-count-requires
     slice-aggregate-has-words
     has-words-requires
     returns
     text-room-requires
+    cast-read-named
     slice-aggregate-read-named
     read-named-requires
     enum-known-n
     enum-told
     returns-2
     tables-room-requires
+    cast-read-named-2
     slice-aggregate-read-named-2
     read-named-requires-2
     enum-known-m
@@ -140,7 +143,4 @@ main-spec =
     array-share-prefix-out
     slice-aggregate-write-all
     write-all-requires
-    say-long-requires
-    say-long-requires-2
-    returns-4
-    returns-5)
+    returns-4)
