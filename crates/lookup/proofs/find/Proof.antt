@@ -1,89 +1,100 @@
 use borrow.Author.Needs.{needs}
-use Prim.Native.Nat.{_+_, _-_, _*_, _<_}
-use mathlib.Core.Path.{_≡_, sym, _∙_}
+use Prim.Native.Nat.{_-_}
+use mathlib.Core.Path.{sym, _∙_}
 use native.Mathlib.Omega.{arith}
-use lib.ListN.{getD}
-use Rattle.lookup.specs.LookupLaws.{placed-fewer, scanning-here, scanning-end}
-use Rattle.lookup.specs.IndexLaws.{Finding, finding-first, finding-less, finding-next}
+use Rattle.lookup.specs.LookupLaws.{placed-fewer}
+use Rattle.lookup.specs.Index.{probes}
+use Rattle.lookup.specs.IndexLaws.{Finding, finding-none, finding-more, finding-empty, finding-here}
 use Rattle.lookup.proofs.find.Statement.{statement}
 use Rattle.lookup.proofs.find.Tie as tie
 use Rattle.lookup.proofs.find.Reads as reads
 use Rattle.lookup.proofs.find.Lts as lts
-use Rattle.lookup.proofs.bucket.Reads as bucket-reads
-use Rattle.lookup.proofs.has_code.Reads as has-code-reads
+use Rattle.lookup.proofs.is_entry.Reads as is-entry-reads
+use Rattle.lookup.proofs.mark.Reads as mark-reads
+use Rattle.lookup.proofs.onward.Reads as onward-reads
+use Rattle.lookup.proofs.place.Reads as place-reads
+use Rattle.lookup.proofs.scan.Reads as scan-reads
 
 abbrev Inv-loop : tie.InvT-loop
-Inv-loop s codes heads nexts stops t from n b k₀ k = Finding s codes stops t from n k
+Inv-loop s codes slots stops t from n m x₀ i₀ x i = Finding s codes slots t from n m x i
 
 abbrev μ-loop : tie.MeasureT-loop
-μ-loop s codes heads nexts stops t from n b k₀ k = k
+μ-loop s codes slots stops t from n m x₀ i₀ x i = probes - i
 
-bucket-requires : tie.Need-bucket-requires Inv-loop μ-loop
-bucket-requires c κs = search needs
-
-mul-k : tie.Need-mul-k Inv-loop μ-loop
-mul-k c = omega (arith, c .bucket .ensures)
-
-shared-slice-read-k : tie.Need-shared-slice-read-k Inv-loop μ-loop
-shared-slice-read-k c =
-    let z = c .before .before .before .before .before .before .before in
-    omega (arith, c .before .bucket .ensures, z .pre .0 .heads-long)
-
-cast-k : tie.Need-cast-k Inv-loop μ-loop
-cast-k c = omega (arith, c .shared-slice-known6 .given (c .before .bucket .result))
+mark-requires : tie.Need-mark-requires Inv-loop μ-loop
+mark-requires c κs = search needs
 
 loop-holds : tie.Need-loop-holds Inv-loop μ-loop
-loop-holds c =
-    let z = c .before .before .before .before .before .before .before in
-    let b = c .before .bucket in
-    finding-first (z .pre .0) _ _ _ (b .result) (b .ensures .0) (b .ensures .1)
+loop-holds c = finding-none _ _ _ _ _ _ _ (c .mark .ensures .1)
 
-sub-j : tie.Need-sub-j Inv-loop μ-loop
-sub-j c = search needs
+place-requires : tie.Need-place-requires Inv-loop μ-loop
+place-requires c κs = search needs
 
-has-code-requires : tie.Need-has-code-requires Inv-loop μ-loop
-has-code-requires c κs =
-    let z = c .before .before .before .before .before .before .before .before .before in
-    let f = c .before .loop .inv in
-    (placed-fewer (z .pre .0 .codes-placed) (omega (arith, f .scanning .high)), search needs)
+mul-e : tie.Need-mul-e Inv-loop μ-loop
+mul-e c = omega (arith, c .place .ensures)
 
-cast-result : tie.Need-cast-result Inv-loop μ-loop
-cast-result c =
-    let z = c .before .before .before .before .before .before .before .before .before .before .before in
-    omega (arith, c .before .before .before .loop .inv .scanning .high, z .pre .0 .few)
+shared-slice-read-e : tie.Need-shared-slice-read-e Inv-loop μ-loop
+shared-slice-read-e c =
+    let p = c .before in
+    let z = p .before .before .before .before .before .before .before .before in
+    omega (arith, p .place .ensures, z .pre .0 .slots-long)
 
 returns : tie.Need-returns Inv-loop μ-loop
 returns c =
-    let at = c .before .before .before .loop in
-    scanning-here (at .inv .scanning) (search needs) (sym (c .before .has-code .ensures) ∙ c .if1 .taken)
+    let p = c .before .before in
+    let at = p .before .before in
+    let m = at .before in
+    let z = m .before .before .before .before .before in
+    finding-empty (z .pre .0) (at .loop .inv) (m .mark .ensures .0) (search needs) (p .place .ensures .0) (c .if1 .taken)
 
-mul-k-2 : tie.Need-mul-k-2 Inv-loop μ-loop
-mul-k-2 c =
-    let z = c .before .before .before .before .before .before .before .before .before .before .before in
-    omega (arith, c .before .before .before .loop .inv .scanning .high, z .pre .0 .few)
+is-entry-requires : tie.Need-is-entry-requires Inv-loop μ-loop
+is-entry-requires c κs =
+    let p = c .before .before in
+    let z = p .before .before .before .before .before .before .before .before in
+    let k = z .pre .0 .known (p .place .result) (omega (arith, c .if1 .left)) in
+    ((k .0, placed-fewer (z .pre .0 .codes-placed) (k .1)), search needs)
 
-shared-slice-read-k-2 : tie.Need-shared-slice-read-k-2 Inv-loop μ-loop
-shared-slice-read-k-2 c =
-    let z = c .before .before .before .before .before .before .before .before .before .before .before .before in
-    omega (arith, c .before .before .before .before .loop .inv .scanning .high, z .pre .0 .few, z .pre .0 .nexts-long)
+sub-result : tie.Need-sub-result Inv-loop μ-loop
+sub-result c =
+    let e = c .before .before in
+    let p = e .before .before in
+    let z = p .before .before .before .before .before .before .before .before in
+    omega (arith, z .pre .0 .known (p .place .result) (omega (arith, e .if1 .left)))
 
-cast-k-2 : tie.Need-cast-k-2 Inv-loop μ-loop
-cast-k-2 c = omega (arith, c .shared-slice-known7 .given (c .before .before .before .before .loop .k - 1))
+cast-result : tie.Need-cast-result Inv-loop μ-loop
+cast-result c = search needs
+
+returns-2 : tie.Need-returns-2 Inv-loop μ-loop
+returns-2 c =
+    let e = c .before .before in
+    let p = e .before .before in
+    let z = p .before .before .before .before .before .before .before .before in
+    finding-here (z .pre .0) _ _ _ _ (p .place .result) (omega (arith, e .if1 .left)) (sym (c .before .is-entry .ensures) ∙ c .if2 .taken)
+
+onward-requires : tie.Need-onward-requires Inv-loop μ-loop
+onward-requires c κs =
+    let p = c .before .before .before .before in
+    p .before .before .loop .inv .along .small
+
+add-i : tie.Need-add-i Inv-loop μ-loop
+add-i c = search needs
 
 loop-less : tie.Need-loop-less Inv-loop μ-loop
-loop-less c =
-    let z = c .before .before .before .before .before .before .before .before .before .before .before .before in
-    let at = c .before .before .before .before .loop in
-    finding-less (z .pre .0) (at .k) (at .inv .scanning .high) (search needs)
+loop-less c = search needs
 
 loop-again : tie.Need-loop-again Inv-loop μ-loop
 loop-again c =
-    let z = c .before .before .before .before .before .before .before .before .before .before .before .before in
-    let at = c .before .before .before .before .loop in
-    finding-next (z .pre .0) (at .inv) (search needs) (sym (c .before .before .has-code .ensures) ∙ c .before .if1 .left)
+    let e = c .before .before in
+    let p = e .before .before .before in
+    finding-more (p .before .before .loop .inv) (search needs) (p .place .ensures .0) (sym (e .is-entry .ensures) ∙ c .before .if2 .left) (c .onward .ensures .0) (c .onward .ensures .1)
 
-returns-2 : tie.Need-returns-2 Inv-loop μ-loop
-returns-2 c = scanning-end (c .before .loop .inv .scanning) (search needs)
+scan-requires : tie.Need-scan-requires Inv-loop μ-loop
+scan-requires c κs =
+    let z = c .before .before .before .before .before .before .before in
+    (z .pre .0 .codes-placed, search needs)
+
+returns-3 : tie.Need-returns-3 Inv-loop μ-loop
+returns-3 c = c .scan .ensures
 
 pub find-spec : {M : Type 1} → statement M
 find-spec =
@@ -91,18 +102,19 @@ find-spec =
     (tie.spec
     Inv-loop
     μ-loop
-    bucket-requires
-    mul-k
-    shared-slice-read-k
-    cast-k
+    mark-requires
     loop-holds
-    sub-j
-    has-code-requires
-    cast-result
+    place-requires
+    mul-e
+    shared-slice-read-e
     returns
-    mul-k-2
-    shared-slice-read-k-2
-    cast-k-2
+    is-entry-requires
+    sub-result
+    cast-result
+    returns-2
+    onward-requires
+    add-i
     loop-less
     loop-again
-    returns-2)
+    scan-requires
+    returns-3)
