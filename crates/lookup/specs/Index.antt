@@ -13,9 +13,9 @@ use Rattle.lookup.specs.LookupLaws.{Placed}
 use Rattle.lookup.specs.Mark.{markOf}
 
 abbrev pub slotCount : ℕ
-slotCount = 1024
+slotCount = 2048
 
--- In so many slots a code is looked for; then the plain search decides. At most a quarter of the slots are taken, so that a code comes that far only
+-- In so many slots a code is looked for; then the plain search decides. At most an eighth of the slots are taken, so that a code comes that far only
 -- where it was made for it.
 abbrev pub probes : ℕ
 probes = 32
@@ -29,7 +29,7 @@ way m zero = m
 way m (suc i) = onwardOf (way m i)
 
 unfoldable pub placeOf : ℕ → ℕ
-placeOf x = x / 2097152 % slotCount
+placeOf x = x / 8388608 % slotCount
 
 -- what stands in slot i of the mark's way
 abbrev pub probed : List ℕ → ℕ → ℕ → ℕ

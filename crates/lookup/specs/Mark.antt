@@ -1,11 +1,12 @@
 -- A code's mark: a number that equal codes share. No meaning rests on it: what is looked up is said in Lookup.antt.
-use Prim.Native.Nat.{ℕ, zero, suc, _+_, _*_, _/_, _%_, _<_}
+use Prim.Native.Nat.{ℕ, zero, suc, _+_, _*_, _-_, _/_, _%_, _<_}
 use mathlib.Core.List.{List}
 use mathlib.Core.Bool.{cond}
 use lib.ListN.{getD}
-use lib.Dec.{ltb}
+use lib.Dec.{ltb, eqb}
 use Rattle.kinds.specs.Limits.{mostCode}
 use Rattle.lookup.specs.declared.Mix.{Mix}
+use Rattle.lookup.specs.declared.Ends.{Ends}
 
 -- 2 ^ 31: the numbers of a mix, and four bytes of a code, are below it
 abbrev pub wordsBelow : ℕ
@@ -29,48 +30,41 @@ weighedBytes n = cond (ltb n mostCode) n mostCode
 unfoldable pub wordAt : List ℕ → ℕ → ℕ
 wordAt t k = (getD t (k + 0) 0 + 256 * getD t (k + 1) 0 + 65536 * (getD t (k + 2) 0 + 256 * getD t (k + 3) 0)) % wordsBelow
 
--- The first k bytes from a on, as many as are left of a code behind its blocks of eight.
-unfoldable pub restOf : List ℕ → ℕ → ℕ → ℕ
-restOf t a zero = 0
-restOf t a (suc k) = 256 * (restOf t a k % 281474976710656) + getD t (a + k) 0
-
--- Two products, of which nearly all bits go on. Both factors hold what was read before, so that a sum of the bytes, however weighed, does not tell
--- what comes out; the second factors are odd, so that no two words come to the same.
+-- Two words mixed in: two products, of which nearly all bits go on. Both factors hold what was read before, and each word goes into the one product
+-- and is added to the other, so that no sum of the bytes, however weighed, tells what comes out. The second factors are odd, so that no two pairs of
+-- words come to the same.
 unfoldable pub mixedOf : Mix → ℕ → ℕ → Mix
 mixedOf m w v =
     let p = (m .a + w + 1) * (2 * m .b + 1) in
     let q = (m .c + v + 1) * (2 * m .d + 1) in
-    record { a = q / 8589934592; b = p % wordsBelow; c = p / 8589934592; d = q % wordsBelow }
+    record { a = q / 8589934592; b = (p + 2 * v) % wordsBelow; c = p / 8589934592; d = (q + 2 * w) % wordsBelow }
 
--- where the two chains begin: the digits of well-known numbers
-abbrev pub firstStart : Mix
-firstStart = record { a = 314159265; b = 718281828; c = 141421356; d = 732050807 }
+-- what a code of k bytes begins with: the second factors are the golden ratio and the root of 2, each behind its point, times 2 ^ 32
+abbrev pub startOfMix : ℕ → Mix
+startOfMix k = record { a = 314159265 + k; b = 1327217884; c = 141421356; d = 889516851 }
 
-abbrev pub secondStart : Mix
-secondStart = record { a = 141421356; b = 732050807; c = 314159265; d = 718281828 }
+-- i blocks of eight bytes from a on
+unfoldable pub blocksOf : List ℕ → ℕ → Mix → ℕ → Mix
+blocksOf t a m zero = m
+blocksOf t a m (suc i) = mixedOf (blocksOf t a m i) (wordAt t (a + 8 * i)) (wordAt t (a + 8 * i + 4))
 
--- one word of each of i blocks of eight bytes, the first word at a; each goes into both products
-unfoldable pub chainOf : List ℕ → ℕ → Mix → ℕ → Mix
-chainOf t a m zero = m
-chainOf t a m (suc i) = mixedOf (chainOf t a m i) (wordAt t (a + 8 * i)) (wordAt t (a + 8 * i))
+-- up to three bytes: the first, the one in the middle and the last
+unfoldable pub fewAt : List ℕ → ℕ → ℕ → ℕ
+fewAt t a k = cond (eqb k 0) 0 (getD t (a + 0) 0 + 256 * getD t (a + k / 2) 0 + 65536 * getD t (a + (k - 1)) 0)
 
-unfoldable pub joinedOf : Mix → Mix → Mix
-joinedOf x y = record { a = (x .a + y .a) / 2; b = (x .b + y .b) / 2; c = (x .c + y .c) / 2; d = (x .d + y .d) / 2 }
-
--- i blocks of eight bytes from a on: their first words, and their second words
-unfoldable pub blocksOf : List ℕ → ℕ → ℕ → Mix
-blocksOf t a i = joinedOf (chainOf t a firstStart i) (chainOf t (a + 4) secondStart i)
-
--- what is left behind the blocks, and how many bytes there are, put in as the last words
-abbrev pub endOf : Mix → ℕ → ℕ → Mix
-endOf m rest k = mixedOf m (rest % wordsBelow) (rest / wordsBelow + 16777216 * k)
+-- The last eight of k bytes as two words; of fewer than eight the first four and the last four.
+unfoldable pub endsOf : List ℕ → ℕ → ℕ → Ends
+endsOf t a k =
+    cond (ltb k 4) (record { first = fewAt t a k; last = 0 }) (record { first = wordAt t (a + (k - 8)); last = wordAt t (a + (k - 4)) })
 
 abbrev pub numberOf : Mix → ℕ
 numberOf m = 8388608 * (m .a + m .c) + (m .b + m .d)
 
--- k bytes from a on
+-- k bytes from a on: the blocks that do not reach the last byte, and then the last eight bytes, which may be partly those of the last block
 unfoldable pub markOfBytes : List ℕ → ℕ → ℕ → ℕ
-markOfBytes t a k = numberOf (endOf (blocksOf t a (k / 8)) (restOf t (a + 8 * (k / 8)) (k % 8)) k)
+markOfBytes t a k =
+    let e = endsOf t a k in
+    numberOf (mixedOf (blocksOf t a (startOfMix k) ((k - 1) / 8)) (e .first) (e .last))
 
 abbrev pub markOf : List ℕ → ℕ → ℕ → ℕ
 markOf t a n = markOfBytes t a (weighedBytes n)

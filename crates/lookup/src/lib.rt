@@ -1,12 +1,12 @@
 // Which stop has a code. Codes are compared whole: the length first, then every byte.
 use kinds::Code;
 ghost use mathlib.Core.Path.{_≡_};
-ghost use Prim.Native.Nat.{ℕ, _+_, _*_, _%_, _≤_, _<_};
+ghost use Prim.Native.Nat.{ℕ, _+_, _*_, _-_, _%_, _≤_, _<_};
 ghost use lib.ListN.{length};
 ghost use Rattle.lookup.specs.Lookup.{hasCode, stopNamed, putCode};
 ghost use Rattle.lookup.specs.LookupLaws.{Placed};
-ghost use Rattle.kinds.specs.Limits.{mostStops};
-ghost use Rattle.lookup.specs.Mark.{wordsBelow, marksBelow, Small, weighedBytes, wordAt, restOf, mixedOf, joinedOf, blocksOf, markOf};
+ghost use Rattle.kinds.specs.Limits.{mostStops, mostCode};
+ghost use Rattle.lookup.specs.Mark.{wordsBelow, marksBelow, Small, weighedBytes, wordAt, mixedOf, startOfMix, blocksOf, fewAt, endsOf, markOf};
 ghost use Rattle.lookup.specs.Index.{slotCount, placeOf, onwardOf, isEntry, Indexed, Enterable, Vacant, Stood};
 
 // Whether stop j, whose code stands in s, has the code that is n bytes of t from `from` on.
@@ -24,7 +24,7 @@ pub fn has_code(s: &[u8], codes: &[u32], j: usize, t: &[u8], from: usize, n: usi
 }
 
 // How many slots the index has: numbers of 64 bits, 0 where no stop stands.
-pub const SLOTS: usize = 1024;
+pub const SLOTS: usize = 2048;
 
 // In how many slots a code is looked for.
 const PROBES: usize = 32;
@@ -38,6 +38,12 @@ struct Mix {
     b: u64,
     c: u64,
     d: u64,
+}
+
+// The words that the last bytes of a code come to.
+struct Ends {
+    first: u64,
+    last: u64,
 }
 
 fn wide(byte: u8) -> u64
@@ -66,65 +72,67 @@ fn mixed(m: Mix, w: u64, v: u64) -> Mix
     let q = (m.c + v + 1) * (2 * m.d + 1);
     Mix {
         a: q / 8589934592,
-        b: p % WORDS_BELOW,
+        b: (p + 2 * v) % WORDS_BELOW,
         c: p / 8589934592,
-        d: q % WORDS_BELOW,
+        d: (q + 2 * w) % WORDS_BELOW,
     }
 }
 
-fn joined(x: Mix, y: Mix) -> Mix
-    requires { ⌜ Small x × Small y ⌝ }
-    ensures { λ r. ⌜ (r ≡ joinedOf x y) × Small r ⌝ }
+// The first blocks of eight bytes, so many, of a code of k bytes.
+fn blocks(t: &[u8], from: usize, k: usize, count: usize) -> Mix
+    requires { ⌜ (k ≤ mostCode) × (from + 8 * count ≤ length (now t)) ⌝ }
+    ensures { λ r. ⌜ (r ≡ blocksOf (now (t .entry)) from (startOfMix k) count) × Small r ⌝ }
 {
-    Mix {
-        a: (x.a + y.a) / 2,
-        b: (x.b + y.b) / 2,
-        c: (x.c + y.c) / 2,
-        d: (x.d + y.d) / 2,
-    }
-}
-
-// So many blocks of eight bytes: a chain of their first words and a chain of their second words, each word in both products.
-fn blocks(t: &[u8], from: usize, count: usize) -> Mix
-    requires { ⌜ from + 8 * count ≤ length (now t) ⌝ }
-    ensures { λ r. ⌜ (r ≡ blocksOf (now (t .entry)) from count) × Small r ⌝ }
-{
-    let mut x = Mix {
-        a: 314159265,
-        b: 718281828,
+    let mut m = Mix {
+        a: 314159265 + (k as u64),
+        b: 1327217884,
         c: 141421356,
-        d: 732050807,
-    };
-    let mut y = Mix {
-        a: 141421356,
-        b: 732050807,
-        c: 314159265,
-        d: 718281828,
+        d: 889516851,
     };
     let mut i = 0;
     while i < count {
         let at = from + 8 * i;
         let w = word(t, at);
         let v = word(t, at + 4);
-        x = mixed(x, w, w);
-        y = mixed(y, v, v);
+        m = mixed(m, w, v);
         i += 1;
     }
-    joined(x, y)
+    m
 }
 
-// The bytes behind the blocks as one number below 2 ^ 56.
-fn rest(t: &[u8], from: usize, n: usize) -> u64
-    requires { ⌜ from + n ≤ length (now t) ⌝ }
-    ensures { λ r. ⌜ (r ≡ restOf (now (t .entry)) from n) × (r < marksBelow) ⌝ }
+// Up to three bytes as a number.
+fn few(t: &[u8], from: usize, k: usize) -> u64
+    requires { ⌜ from + k ≤ length (now t) ⌝ }
+    ensures { λ r. ⌜ (r ≡ fewAt (now (t .entry)) from k) × (r < wordsBelow) ⌝ }
 {
-    let mut sum: u64 = 0;
-    let mut k = 0;
-    while k < n {
-        sum = 256 * (sum % 281474976710656) + wide(t[from + k]);
-        k += 1;
+    if k == 0 {
+        return 0;
     }
-    sum
+    wide(t[from]) + 256 * wide(t[from + k / 2]) + 65536 * wide(t[from + (k - 1)])
+}
+
+// How many of k bytes stand before the last n.
+fn but_last(k: usize, n: usize) -> usize
+    ensures { λ r. ⌜ r ≡ k - n ⌝ }
+{
+    if k < n { 0 } else { k - n }
+}
+
+// The last of k bytes as two words.
+fn end_words(t: &[u8], from: usize, k: usize) -> Ends
+    requires { ⌜ from + k ≤ length (now t) ⌝ }
+    ensures { λ r. ⌜ (r ≡ endsOf (now (t .entry)) from k) × (r .first < wordsBelow) × (r .last < wordsBelow) ⌝ }
+{
+    if k < 4 {
+        return Ends {
+            first: few(t, from, k),
+            last: 0,
+        };
+    }
+    Ends {
+        first: word(t, from + but_last(k, 8)),
+        last: word(t, from + (k - 4)),
+    }
 }
 
 fn weighed_bytes(n: usize) -> usize
@@ -139,13 +147,9 @@ fn mark(t: &[u8], from: usize, n: usize) -> u64
     ensures { λ r. ⌜ (r ≡ markOf (now (t .entry)) from n) × (r < marksBelow) ⌝ }
 {
     let k = weighed_bytes(n);
-    let x = blocks(t, from, k / 8);
-    let left = rest(t, from + 8 * (k / 8), k % 8);
-    let z = mixed(
-        x,
-        left % WORDS_BELOW,
-        left / WORDS_BELOW + 16777216 * (k as u64),
-    );
+    let m = blocks(t, from, k, but_last(k, 1) / 8);
+    let e = end_words(t, from, k);
+    let z = mixed(m, e.first, e.last);
     8388608 * (z.a + z.c) + (z.b + z.d)
 }
 
@@ -153,7 +157,7 @@ fn mark(t: &[u8], from: usize, n: usize) -> u64
 fn place(x: u64) -> usize
     ensures { λ r. ⌜ (r ≡ placeOf x) × (r < slotCount) ⌝ }
 {
-    (x / 2097152 % 1024) as usize
+    (x / 8388608 % 2048) as usize
 }
 
 // The next number on a mark's way.

@@ -2,25 +2,17 @@
 
 use std::ops::Range;
 
-const SLOTS: usize = 1_024;
+const SLOTS: usize = 2_048;
 const PROBES: usize = 32;
 
 /// What the bytes of a code that were read come to.
-#[derive(Clone, Copy)]
 struct Mix(u64, u64, u64, u64);
-
-const FIRST: Mix = Mix(314_159_265, 718_281_828, 141_421_356, 732_050_807);
-const SECOND: Mix = Mix(141_421_356, 732_050_807, 314_159_265, 718_281_828);
 
 impl Mix {
     fn and(self, w: u64, v: u64) -> Mix {
         let p = (self.0 + w + 1) * (2 * self.1 + 1);
         let q = (self.2 + v + 1) * (2 * self.3 + 1);
-        Mix(q >> 33, p % (1 << 31), p >> 33, q % (1 << 31))
-    }
-
-    fn joined(self, with: Mix) -> Mix {
-        Mix((self.0 + with.0) / 2, (self.1 + with.1) / 2, (self.2 + with.2) / 2, (self.3 + with.3) / 2)
+        Mix(q >> 33, (p + 2 * v) % (1 << 31), p >> 33, (q + 2 * w) % (1 << 31))
     }
 }
 
@@ -30,19 +22,16 @@ fn word(bytes: &[u8]) -> u64 {
 
 /// The mark of a code of whole blocks of eight bytes.
 fn mark(code: &[u8]) -> u64 {
-    let (mut x, mut y) = (FIRST, SECOND);
-    for block in code.chunks(8) {
-        let (w, v) = (word(&block[..4]), word(&block[4..]));
-        (x, y) = (x.and(w, w), y.and(v, v));
-    }
-    let z = x.joined(y).and(0, (code.len() as u64) << 24);
+    let start = Mix(314_159_265 + code.len() as u64, 1_327_217_884, 141_421_356, 889_516_851);
+    let mixed = |m: Mix, block: &[u8]| m.and(word(&block[..4]), word(&block[4..]));
+    let z = code.chunks(8).fold(start, mixed);
     ((z.0 + z.2) << 23) + z.1 + z.3
 }
 
 /// The slots in which a code is looked for, one after the other.
 fn way(code: &[u8]) -> impl Iterator<Item = usize> {
     let onward = |x: &u64| Some(33_550_337 * (x % (1 << 31)) + (x >> 31));
-    std::iter::successors(Some(mark(code)), onward).take(PROBES).map(|x| (x >> 21) as usize % SLOTS)
+    std::iter::successors(Some(mark(code)), onward).take(PROBES).map(|x| (x >> 23) as usize % SLOTS)
 }
 
 /// A code of 64 bytes, which differs from others in its last bytes only.

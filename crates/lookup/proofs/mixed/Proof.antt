@@ -45,6 +45,24 @@ mul-q-2 c =
     let a = z .args in
     omega (arith, product (a .m .c + a .v + 1) (2 * a .m .d + 1) (omega (arith, z .pre .0 .c-low, z .pre .1 .1)) (omega (arith, z .pre .0 .d-low)))
 
+mul-t7 : tie.Need-mul-t7
+mul-t7 c = search needs
+
+add-t8 : tie.Need-add-t8
+add-t8 c =
+    let z = c .before .before .before .before in
+    let a = z .args in
+    omega (arith, product (a .m .a + a .w + 1) (2 * a .m .b + 1) (omega (arith, z .pre .0 .a-low, z .pre .1 .0)) (omega (arith, z .pre .0 .b-low)), z .pre .1 .1)
+
+mul-t11 : tie.Need-mul-t11
+mul-t11 c = search needs
+
+add-t12 : tie.Need-add-t12
+add-t12 c =
+    let z = c .before .before .before .before in
+    let a = z .args in
+    omega (arith, product (a .m .c + a .v + 1) (2 * a .m .d + 1) (omega (arith, z .pre .0 .c-low, z .pre .1 .1)) (omega (arith, z .pre .0 .d-low)), z .pre .1 .0)
+
 returns : tie.Need-returns
 unfolding mixedOf
 returns c =
@@ -54,4 +72,19 @@ returns c =
 pub mixed-spec : {M : Type 1} → statement M
 mixed-spec =
     tie.close
-    (tie.spec add-p add-p-2 mul-p add-p-3 mul-p-2 add-q add-q-2 mul-q add-q-3 mul-q-2 returns)
+    (tie.spec
+    add-p
+    add-p-2
+    mul-p
+    add-p-3
+    mul-p-2
+    add-q
+    add-q-2
+    mul-q
+    add-q-3
+    mul-q-2
+    mul-t7
+    add-t8
+    mul-t11
+    add-t12
+    returns)
