@@ -9,34 +9,10 @@ use native.Mathlib.Decide.{ℕ-discrete, decLt}
 use lib.ListN.{length, getD, set, replicate, length-set, length-replicate, getD-replicate, List·getD-eq-default}
 use lib.Seq.{getD-set-same, getD-set-other}
 use Rattle.kinds.specs.Limits.{mostStops}
-use Rattle.lookup.specs.Lookup.{startOf, lengthOf, hasCode, putCode}
-use Rattle.lookup.specs.LookupLaws.{Placed, start-put, length-put, start-kept, length-kept, placed-more, has-kept}
+use Rattle.lookup.specs.Lookup.{startOf, lengthOf, hasCode, stopNamed, putCode}
+use Rattle.lookup.specs.LookupLaws.{Placed, start-put, length-put, start-kept, length-kept, placed-more, has-kept, none-named}
 use Rattle.lookup.specs.Mark.{marksBelow, markOf}
-use Rattle.lookup.specs.Index.{slotCount, probes, onwardOf, way, placeOf, probed, entryOf, AtHome, markAt, Indexed, Enterable, Vacant, Stood}
-use Rattle.lookup.specs.IndexLaws.{Along, along-none, along-more, along-slot}
-
--- the walk to the first empty slot
-pub record Seeking (slots : List ℕ) (m x i : ℕ) : Type 0 where
-  pub along : Along m x i
-  pub taken : (k : ℕ) → k < i → 0 < probed slots m k
-
-pub seeking-none : (slots : List ℕ) (m : ℕ) → m < marksBelow → Seeking slots m m 0
-seeking-none slots m h = record { along = along-none m h; taken = λ k l. absurd (omega arith) }
-
-module _ {slots : List ℕ} {m x i : ℕ} (f : Seeking slots m x i) where
-  pub seeking-more : {y p : ℕ} → i < probes → p ≡ placeOf x → 0 < getD slots p 0 → y ≡ onwardOf x → y < marksBelow → Seeking slots m y (i + 1)
-  seeking-more {y} {p} h e g o l = record { along = along-more (f .along) h o l; taken = λ k b. go k b (ℕ-discrete k i) }
-    where
-      go : (k : ℕ) → k < i + 1 → Dec (k ≡ i) → 0 < probed slots m k
-      go k b (yes z) = rw z (rw (along-slot slots (f .along) e) at g)
-      go k b (no z) = f .taken k (omega arith)
-
-  pub seeking-here : {p : ℕ} → p ≡ placeOf x → getD slots p 0 ≡ 0 → p < slotCount → Vacant slots m p
-  seeking-here {p} e g l =
-      record { turn = i; taken = f .taken; empty = λ b. (e ∙ rw (f .along .is), g); full = λ b. absurd (omega arith) }
-
-  pub seeking-end : probes ≤ i → Vacant slots m slotCount
-  seeking-end h = record { turn = i; taken = f .taken; empty = λ b. absurd (omega arith); full = λ b. h }
+use Rattle.lookup.specs.Index.{slotCount, probes, way, placeOf, probed, entryOf, AtHome, markAt, Indexed, Enterable, Vacant, Stood}
 
 -- a stop put into the first empty slot, or nowhere
 module _ {slots : List ℕ} {m p : ℕ} (v : Vacant slots m p) (j : ℕ) where
@@ -102,6 +78,11 @@ home-kept {before} {after} {m} {j} x w i h k l e =
         go : (y : ℕ) → getD before p 0 ≡ y → y ≡ 0
         go zero d = refl
         go (suc y) d = absurd (omega (arith, z, d, x .kept p (omega (arith, d))))
+
+-- no stop has the code that is entered
+pub enterable-new : {s codes : List ℕ} {j start n : ℕ} → Enterable s codes j start n → j ≡ stopNamed s codes j s start n
+unfolding stopNamed
+enterable-new {s} {codes} {j} {start} {n} y = none-named s codes s start n j j (y .new)
 
 module _ {s codes : List ℕ} {j : ℕ} {slots : List ℕ} (x : Indexed s codes j slots) {start n : ℕ} (y : Enterable s codes j start n) where
   pub entered : {m : ℕ} {after : List ℕ} → m ≡ markOf s start n → Stood slots after m j → Indexed s (putCode codes j start n) (j + 1) after

@@ -15,7 +15,7 @@ use Rattle.lookup.specs.Lookup.{startOf, lengthOf, hasCode, stopNamed}
 use Rattle.lookup.specs.LookupLaws.{none-named, one-named, has-told, has-both}
 use Rattle.lookup.specs.Mark.{marksBelow, markOf}
 use Rattle.lookup.specs.MarkLaws.{mark-same}
-use Rattle.lookup.specs.Index.{slotCount, probes, onwardOf, way, placeOf, probed, entryOf, isEntry, markAt, Indexed}
+use Rattle.lookup.specs.Index.{slotCount, probes, onwardOf, way, placeOf, probed, entryOf, isEntry, markAt, Indexed, Vacant}
 
 -- a stop with the code has the code's mark
 code-mark : (s codes t : List ℕ) (a n j : ℕ) → hasCode s codes t a n j ≡ true → markAt s codes j ≡ markOf t a n
@@ -41,13 +41,14 @@ along-more f h e l = record { is = rw (add-one, e, ← f .is); small = l; low = 
 pub along-slot : {m x p i : ℕ} (slots : List ℕ) → Along m x i → p ≡ placeOf x → getD slots p 0 ≡ probed slots m i
 along-slot slots f e = rw (e, f .is)
 
--- none of the slots that were passed has a stop with the code
+-- the slots that were passed are taken, and none of them has a stop with the code
 pub record Finding (s codes slots t : List ℕ) (a n m x i : ℕ) : Type 0 where
   pub along : Along m x i
+  pub taken : (k : ℕ) → k < i → 0 < probed slots m k
   pub passed : (k : ℕ) → k < i → (j : ℕ) → j < mostStops → probed slots m k ≡ entryOf m j → hasCode s codes t a n j ≡ false
 
 pub finding-none : (s codes slots t : List ℕ) (a n m : ℕ) → m < marksBelow → Finding s codes slots t a n m m 0
-finding-none s codes slots t a n m h = record { along = along-none m h; passed = λ k l. absurd (omega arith) }
+finding-none s codes slots t a n m h = record { along = along-none m h; taken = λ k l. absurd (omega arith); passed = λ k l. absurd (omega arith) }
 
 -- an entry that is not that of a stop with the code
 not-entry : (s codes : List ℕ) (e m : ℕ) (t : List ℕ) (a n j : ℕ) → isEntry s codes e m t a n ≡ false → j < mostStops → e ≡ entryOf m j → hasCode s codes t a n j ≡ false
@@ -62,13 +63,30 @@ unfolding isEntry
 is-entry s codes e m t a n h = stays (eqb (e / 256) m) h (λ x. let y : _≡_ {A = ℕ} 0 1 = cc in omega arith) .1
 
 pub finding-more : {s codes slots t : List ℕ} {a n m x y p i : ℕ} → Finding s codes slots t a n m x i → i < probes → p ≡ placeOf x →
-    isEntry s codes (getD slots p 0) m t a n ≡ false → y ≡ onwardOf x → y < marksBelow → Finding s codes slots t a n m y (i + 1)
-finding-more {s} {codes} {slots} {t} {a} {n} {m} {x} {y} {p} {i} f h e g o l =
-    record { along = along-more (f .along) h o l; passed = λ k b j c d. go k b j c d (ℕ-discrete k i) }
+    0 < getD slots p 0 → isEntry s codes (getD slots p 0) m t a n ≡ false → y ≡ onwardOf x → y < marksBelow → Finding s codes slots t a n m y (i + 1)
+finding-more {s} {codes} {slots} {t} {a} {n} {m} {x} {y} {p} {i} f h e full g o l =
+    record {
+      along = along-more (f .along) h o l;
+      taken = λ k b. taken k b (ℕ-discrete k i);
+      passed = λ k b j c d. go k b j c d (ℕ-discrete k i);
+    }
   where
+    taken : (k : ℕ) → k < i + 1 → Dec (k ≡ i) → 0 < probed slots m k
+    taken k b (yes z) = rw z (rw (along-slot slots (f .along) e) at full)
+    taken k b (no z) = f .taken k (omega arith)
+
     go : (k : ℕ) → k < i + 1 → (j : ℕ) → j < mostStops → probed slots m k ≡ entryOf m j → Dec (k ≡ i) → hasCode s codes t a n j ≡ false
     go k b j c d (yes z) = not-entry s codes (getD slots p 0) m t a n j g c (along-slot slots (f .along) e ∙ rw (← z) d)
     go k b j c d (no z) = f .passed k (omega arith) j c d
+
+-- an empty slot is the first one; behind the last slot there is none
+module _ {s codes slots t : List ℕ} {a n m x i : ℕ} (f : Finding s codes slots t a n m x i) where
+  pub finding-vacant : {p : ℕ} → p ≡ placeOf x → getD slots p 0 ≡ 0 → p < slotCount → Vacant slots m p
+  finding-vacant {p} e g l =
+      record { turn = i; taken = f .taken; empty = λ b. (e ∙ rw (f .along .is), g); full = λ b. absurd (omega arith) }
+
+  pub finding-full : probes ≤ i → Vacant slots m slotCount
+  finding-full h = record { turn = i; taken = f .taken; empty = λ b. absurd (omega arith); full = λ b. h }
 
 module _ {s codes : List ℕ} {stops : ℕ} {slots : List ℕ} (x : Indexed s codes stops slots) where
   -- an empty slot: no stop has the code, since it would have been passed
@@ -85,7 +103,10 @@ module _ {s codes : List ℕ} {stops : ℕ} {slots : List ℕ} (x : Indexed s co
           f .passed k before j (omega (arith, x .few)) there
       go j l false b = b
 
-  -- the entry of a stop with the code: no other stop has it
+  -- the entry of a stop with the code: it is one of the stops, and no other stop has the code
+  pub finding-low : (p : ℕ) → 0 < getD slots p 0 → getD slots p 0 % 256 - 1 < stops
+  finding-low p h = omega (arith, x .known p h)
+
   pub finding-here : (t : List ℕ) (a n m p : ℕ) → 0 < getD slots p 0 → isEntry s codes (getD slots p 0) m t a n ≡ true →
       getD slots p 0 % 256 - 1 ≡ stopNamed s codes stops t a n
   unfolding stopNamed

@@ -46,6 +46,13 @@ struct Ends {
     last: u64,
 }
 
+// Where a code's way ended: the stop with the code, or `stops`; the code's mark; and the slot that is free for it, or SLOTS.
+struct Walked {
+    stop: u32,
+    mark: u64,
+    place: usize,
+}
+
 fn wide(byte: u8) -> u64
     ensures { λ r. ⌜ (r ≡ byte) × (r < 256) ⌝ }
 {
@@ -180,6 +187,52 @@ fn is_entry(s: &[u8], codes: &[u32], e: u64, m: u64, t: &[u8], from: usize, n: u
     false
 }
 
+// Along the way of a code's mark: up to the stop with the code, or up to the first empty slot. Behind the last slot of the way the plain search decides.
+fn walk(
+    s: &[u8],
+    codes: &[u32],
+    slots: &[u64],
+    stops: u32,
+    t: &[u8],
+    from: usize,
+    n: usize,
+) -> Walked
+    requires { ⌜ Indexed (now s) (now codes) stops (now slots) ⌝ }
+    requires { ⌜ from + n ≤ length (now t) ⌝ }
+    ensures { λ r. ⌜ r .stop ≡ stopNamed (now (s .entry)) (now (codes .entry)) stops (now (t .entry)) from n ⌝ }
+    ensures { λ r. ⌜ (r .mark ≡ markOf (now (t .entry)) from n) × (r .mark < marksBelow) ⌝ }
+    ensures { λ r. ⌜ (stops ≤ r .stop → Vacant (now (slots .entry)) (r .mark) (r .place)) ⌝ }
+{
+    let m = mark(t, from, n);
+    let mut x = m;
+    let mut i = 0;
+    while i < PROBES {
+        let p = place(x);
+        let e = slots[p];
+        if e == 0 {
+            return Walked {
+                stop: stops,
+                mark: m,
+                place: p,
+            };
+        }
+        if is_entry(s, codes, e, m, t, from, n) {
+            return Walked {
+                stop: (e % 256 - 1) as u32,
+                mark: m,
+                place: SLOTS,
+            };
+        }
+        x = onward(x);
+        i += 1;
+    }
+    Walked {
+        stop: scan(s, codes, stops, t, from, n),
+        mark: m,
+        place: SLOTS,
+    }
+}
+
 // The number of the stop with the code, or `stops`, through the index.
 pub fn find(
     s: &[u8],
@@ -194,48 +247,16 @@ pub fn find(
     requires { ⌜ from + n ≤ length (now t) ⌝ }
     ensures { λ r. ⌜ r ≡ stopNamed (now (s .entry)) (now (codes .entry)) stops (now (t .entry)) from n ⌝ }
 {
-    let m = mark(t, from, n);
-    let mut x = m;
-    let mut i = 0;
-    while i < PROBES {
-        let p = place(x);
-        let e = slots[p];
-        if e == 0 {
-            return stops;
-        }
-        if is_entry(s, codes, e, m, t, from, n) {
-            return (e % 256 - 1) as u32;
-        }
-        x = onward(x);
-        i += 1;
-    }
-    scan(s, codes, stops, t, from, n)
-}
-
-// The first empty slot on a mark's way, or SLOTS.
-fn vacant(slots: &[u64], m: u64) -> usize
-    requires { ⌜ (length (now slots) ≡ slotCount) × (m < marksBelow) ⌝ }
-    ensures { λ r. ⌜ Vacant (now (slots .entry)) m r ⌝ }
-{
-    let mut x = m;
-    let mut i = 0;
-    while i < PROBES {
-        let p = place(x);
-        if slots[p] == 0 {
-            return p;
-        }
-        x = onward(x);
-        i += 1;
-    }
-    SLOTS
+    let w = walk(s, codes, slots, stops, t, from, n);
+    w.stop
 }
 
 // A stop, put into the first empty slot on its mark's way. Where there is none the plain search finds it.
-fn stand(slots: &mut [u64], m: u64, stop: u32)
+fn stand(slots: &mut [u64], m: u64, p: usize, stop: u32)
     requires { ⌜ (length (now slots) ≡ slotCount) × (m < marksBelow) × (stop < mostStops) ⌝ }
+    requires { ⌜ Vacant (now slots) m p ⌝ }
     ensures { λ _. ⌜ Stood (now (slots .entry)) (now (slots .exit)) m stop ⌝ }
 {
-    let p = vacant(slots, m);
     if p < SLOTS {
         slots[p] = 256 * m + (stop + 1) as u64;
     }
@@ -249,10 +270,10 @@ pub fn enter(s: &[u8], codes: &mut [u32], slots: &mut [u64], stops: u32, start: 
     ensures { λ _. ⌜ Indexed (now (s .entry)) (now (codes .exit)) (stops + 1) (now (slots .exit)) ⌝ }
 {
     let j = stops as usize;
-    let m = mark(s, start, n);
+    let w = walk(s, codes, slots, stops, s, start, n);
     codes[2 * j] = start as u32;
     codes[2 * j + 1] = n as u32;
-    stand(slots, m, stops);
+    stand(slots, w.mark, w.place, stops);
 }
 
 // The number of the stop with the code, or `stops`, without an index.

@@ -1,17 +1,17 @@
 use mathlib.Core.Path.{refl}
 use native.Mathlib.Omega.{arith}
 use lib.ListN.{length-set}
-use Rattle.lookup.specs.EnterLaws.{entered}
+use Rattle.lookup.specs.EnterLaws.{entered, enterable-new}
 use borrow.Author.Needs.{needs}
 use Rattle.lookup.proofs.enter.Statement.{statement}
 use Rattle.lookup.proofs.enter.Tie as tie
 use Rattle.lookup.proofs.enter.Reads as reads
 use Rattle.lookup.proofs.enter.Lts as lts
-use Rattle.lookup.proofs.mark.Reads as mark-reads
 use Rattle.lookup.proofs.stand.Reads as stand-reads
+use Rattle.lookup.proofs.walk.Reads as walk-reads
 
-mark-requires : tie.Need-mark-requires
-mark-requires c κs = search needs
+walk-requires : tie.Need-walk-requires
+walk-requires c κs = search needs
 
 cast-codes : tie.Need-cast-codes
 cast-codes c = search needs
@@ -41,7 +41,10 @@ slice-write-codes-2 : tie.Need-slice-write-codes-2
 slice-write-codes-2 c = simp length-set (omega arith)
 
 stand-requires : tie.Need-stand-requires
-stand-requires c κs = search needs
+stand-requires c κs =
+    let w = c .before in
+    let z = w .before .before .before .before .before .before in
+    ((z .pre .0 .slots-long, w .walk .ensures .1 .0 .1, z .pre .1 .few), w .walk .ensures .1 .1 (omega (arith, w .walk .ensures .0, enterable-new (z .pre .1))))
 
 same-length : tie.Need-same-length
 same-length c = search needs
@@ -52,15 +55,15 @@ same-length-2 c = search needs
 returns : tie.Need-returns
 returns c =
     let st = c .before .before in
-    let m = st .before .before in
-    let z = m .before .before .before .before in
-    (refl, entered (z .pre .0) (z .pre .1) (m .mark .ensures .0) (st .stand .ensures))
+    let w = st .before .before in
+    let z = w .before .before .before .before .before .before in
+    (refl, entered (z .pre .0) (z .pre .1) (w .walk .ensures .1 .0 .0) (st .stand .ensures))
 
 pub enter-spec : {M : Type 1} → statement M
 enter-spec =
     tie.close
     (tie.spec
-    mark-requires
+    walk-requires
     cast-codes
     mul-codes
     mul-codes-2

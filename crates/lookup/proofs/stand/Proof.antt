@@ -4,10 +4,6 @@ use Rattle.lookup.proofs.stand.Statement.{statement}
 use Rattle.lookup.proofs.stand.Tie as tie
 use Rattle.lookup.proofs.stand.Reads as reads
 use Rattle.lookup.proofs.stand.Lts as lts
-use Rattle.lookup.proofs.vacant.Reads as vacant-reads
-
-vacant-requires : tie.Need-vacant-requires
-vacant-requires c κs = search needs
 
 mul-slots : tie.Need-mul-slots
 mul-slots c = search needs
@@ -32,20 +28,16 @@ same-length c = search needs
 
 returns : tie.Need-returns
 returns c =
-    let z = c .before .before .before .before in
-    stood-there (c .before .vacant .ensures) _ (c .if1 .taken) (z .pre .0)
-
-same-length-2 : tie.Need-same-length-2
-same-length-2 c = search needs
+    let z = c .before in
+    stood-there (z .pre .1) _ (c .if1 .taken) (z .pre .0 .0)
 
 returns-2 : tie.Need-returns-2
-returns-2 c = stood-nowhere (c .before .vacant .ensures) _ (c .if1 .left)
+returns-2 c = stood-nowhere (c .before .pre .1) _ (c .if1 .left)
 
 pub stand-spec : {M : Type 1} → statement M
 stand-spec =
     tie.close
     (tie.spec
-    vacant-requires
     mul-slots
     add-slots
     cast-slots
@@ -54,5 +46,4 @@ stand-spec =
     slice-write-slots
     same-length
     returns
-    same-length-2
     returns-2)

@@ -4,11 +4,11 @@ use mathlib.Core.Path.{sym, _∙_}
 use native.Mathlib.Omega.{arith}
 use Rattle.lookup.specs.LookupLaws.{placed-fewer}
 use Rattle.lookup.specs.Index.{probes}
-use Rattle.lookup.specs.IndexLaws.{Finding, finding-none, finding-more, finding-empty, finding-here}
-use Rattle.lookup.proofs.find.Statement.{statement}
-use Rattle.lookup.proofs.find.Tie as tie
-use Rattle.lookup.proofs.find.Reads as reads
-use Rattle.lookup.proofs.find.Lts as lts
+use Rattle.lookup.specs.IndexLaws.{Finding, finding-none, finding-more, finding-vacant, finding-full, finding-empty, finding-low, finding-here}
+use Rattle.lookup.proofs.walk.Statement.{statement}
+use Rattle.lookup.proofs.walk.Tie as tie
+use Rattle.lookup.proofs.walk.Reads as reads
+use Rattle.lookup.proofs.walk.Lts as lts
 use Rattle.lookup.proofs.is_entry.Reads as is-entry-reads
 use Rattle.lookup.proofs.mark.Reads as mark-reads
 use Rattle.lookup.proofs.onward.Reads as onward-reads
@@ -45,7 +45,7 @@ returns c =
     let at = p .before .before in
     let m = at .before in
     let z = m .before .before .before .before .before in
-    finding-empty (z .pre .0) (at .loop .inv) (m .mark .ensures .0) (search needs) (p .place .ensures .0) (c .if1 .taken)
+    (finding-empty (z .pre .0) (at .loop .inv) (m .mark .ensures .0) (search needs) (p .place .ensures .0) (c .if1 .taken), (m .mark .ensures, λ h. finding-vacant (at .loop .inv) (p .place .ensures .0) (c .if1 .taken) (p .place .ensures .1)))
 
 is-entry-requires : tie.Need-is-entry-requires Inv-loop μ-loop
 is-entry-requires c κs =
@@ -54,22 +54,23 @@ is-entry-requires c κs =
     let k = z .pre .0 .known (p .place .result) (omega (arith, c .if1 .left)) in
     ((k .0, placed-fewer (z .pre .0 .codes-placed) (k .1)), search needs)
 
-sub-result : tie.Need-sub-result Inv-loop μ-loop
-sub-result c =
+sub-t19 : tie.Need-sub-t19 Inv-loop μ-loop
+sub-t19 c =
     let e = c .before .before in
     let p = e .before .before in
     let z = p .before .before .before .before .before .before .before .before in
     omega (arith, z .pre .0 .known (p .place .result) (omega (arith, e .if1 .left)))
 
-cast-result : tie.Need-cast-result Inv-loop μ-loop
-cast-result c = search needs
+cast-t20 : tie.Need-cast-t20 Inv-loop μ-loop
+cast-t20 c = search needs
 
 returns-2 : tie.Need-returns-2 Inv-loop μ-loop
 returns-2 c =
     let e = c .before .before in
     let p = e .before .before in
-    let z = p .before .before .before .before .before .before .before .before in
-    finding-here (z .pre .0) _ _ _ _ (p .place .result) (omega (arith, e .if1 .left)) (sym (c .before .is-entry .ensures) ∙ c .if2 .taken)
+    let m = p .before .before .before in
+    let z = m .before .before .before .before .before in
+    (finding-here (z .pre .0) _ _ _ _ (p .place .result) (omega (arith, e .if1 .left)) (sym (c .before .is-entry .ensures) ∙ c .if2 .taken), (m .mark .ensures, λ h. absurd (omega (arith, h, finding-low (z .pre .0) (p .place .result) (omega (arith, e .if1 .left))))))
 
 onward-requires : tie.Need-onward-requires Inv-loop μ-loop
 onward-requires c κs =
@@ -86,7 +87,7 @@ loop-again : tie.Need-loop-again Inv-loop μ-loop
 loop-again c =
     let e = c .before .before in
     let p = e .before .before .before in
-    finding-more (p .before .before .loop .inv) (search needs) (p .place .ensures .0) (sym (e .is-entry .ensures) ∙ c .before .if2 .left) (c .onward .ensures .0) (c .onward .ensures .1)
+    finding-more (p .before .before .loop .inv) (search needs) (p .place .ensures .0) (omega (arith, e .before .if1 .left)) (sym (e .is-entry .ensures) ∙ c .before .if2 .left) (c .onward .ensures .0) (c .onward .ensures .1)
 
 scan-requires : tie.Need-scan-requires Inv-loop μ-loop
 scan-requires c κs =
@@ -94,10 +95,12 @@ scan-requires c κs =
     (z .pre .0 .codes-placed, search needs)
 
 returns-3 : tie.Need-returns-3 Inv-loop μ-loop
-returns-3 c = c .scan .ensures
+returns-3 c =
+    let at = c .before .before in
+    (c .scan .ensures, (at .before .mark .ensures, λ h. finding-full (at .loop .inv) (search needs)))
 
-pub find-spec : {M : Type 1} → statement M
-find-spec =
+pub walk-spec : {M : Type 1} → statement M
+walk-spec =
     tie.close
     (tie.spec
     Inv-loop
@@ -109,8 +112,8 @@ find-spec =
     shared-slice-read-e
     returns
     is-entry-requires
-    sub-result
-    cast-result
+    sub-t19
+    cast-t20
     returns-2
     onward-requires
     add-i
