@@ -8,40 +8,48 @@ use Rattle.kinds.specs.Limits.{mostCode}
 use Rattle.lookup.specs.declared.Mix.{Mix}
 use Rattle.lookup.specs.declared.Ends.{Ends}
 
--- 2 ^ 31: the numbers of a mix, and four bytes of a code, are below it
+-- 2 ^ 32: four bytes as a number are below it
 abbrev pub wordsBelow : ℕ
-wordsBelow = 2147483648
+wordsBelow = 4294967296
+
+-- 2 ^ 31 and 2 ^ 30: a mix has two numbers below the one, to which words are added, and two below the other, which make the second factors
+abbrev pub sumsBelow : ℕ
+sumsBelow = 2147483648
+
+abbrev pub factorsBelow : ℕ
+factorsBelow = 1073741824
 
 -- 2 ^ 56: the marks are below it, so that a mark and a stop make a number of 64 bits
 abbrev pub marksBelow : ℕ
 marksBelow = 72057594037927936
 
 pub record Small (m : Mix) : Type 0 where
-  pub a-low : m .a < wordsBelow
-  pub b-low : m .b < wordsBelow
-  pub c-low : m .c < wordsBelow
-  pub d-low : m .d < wordsBelow
+  pub a-low : m .a < sumsBelow
+  pub b-low : m .b < factorsBelow
+  pub c-low : m .c < sumsBelow
+  pub d-low : m .d < factorsBelow
 
 -- as many bytes as a code has at most
 unfoldable pub weighedBytes : ℕ → ℕ
 weighedBytes n = cond (ltb n mostCode) n mostCode
 
--- Four bytes from k on. A code's bytes are below 128, so that no two codes' come to the same.
+-- four bytes from k on
 unfoldable pub wordAt : List ℕ → ℕ → ℕ
-wordAt t k = (getD t (k + 0) 0 + 256 * getD t (k + 1) 0 + 65536 * (getD t (k + 2) 0 + 256 * getD t (k + 3) 0)) % wordsBelow
+wordAt t k = getD t (k + 0) 0 + 256 * getD t (k + 1) 0 + 65536 * (getD t (k + 2) 0 + 256 * getD t (k + 3) 0)
 
 -- Two words mixed in: two products, of which nearly all bits go on. Both factors hold what was read before, and each word goes into the one product
--- and is added to the other, so that no sum of the bytes, however weighed, tells what comes out. The second factors are odd, so that no two pairs of
--- words come to the same.
+-- and is added to the other, so that no sum of the bytes, however weighed, tells what comes out. The second factors are odd, so that hardly any two pairs
+-- of words come to the same mix.
 unfoldable pub mixedOf : Mix → ℕ → ℕ → Mix
 mixedOf m w v =
     let p = (m .a + w + 1) * (2 * m .b + 1) in
     let q = (m .c + v + 1) * (2 * m .d + 1) in
-    record { a = q / 8589934592; b = (p + 2 * v) % wordsBelow; c = p / 8589934592; d = (q + 2 * w) % wordsBelow }
+    record { a = q / 8589934592; b = (p + 2 * v) % factorsBelow; c = p / 8589934592; d = (q + 2 * w) % factorsBelow }
 
--- what a code of k bytes begins with: the second factors are the golden ratio and the root of 2, each behind its point, times 2 ^ 32
+-- What a code of k bytes begins with. The second factors were found by trial: with them, codes of common forms (S12, A001, 8500021) seldom share a
+-- slot.
 abbrev pub startOfMix : ℕ → Mix
-startOfMix k = record { a = 314159265 + k; b = 1327217884; c = 141421356; d = 889516851 }
+startOfMix k = record { a = 314159265 + k; b = 764620624; c = 141421356; d = 992991361 }
 
 -- i blocks of eight bytes from a on
 unfoldable pub blocksOf : List ℕ → ℕ → Mix → ℕ → Mix

@@ -74,9 +74,9 @@ bytes-same {k = k} h = rw (ends-same h, blocks-same h (startOfMix k) ((k - 1) / 
 pub mark-same : (s : List ℕ) (a : ℕ) (t : List ℕ) (b n : ℕ) → sameB s a t b n ≡ true → markOf s a n ≡ markOf t b n
 mark-same s a t b n e = bytes-same (record { byte = λ k l. same-at s a t b n e k (omega (arith, weighed-few n)) })
 
--- the product of two numbers of 32 bits
-pub product : (x y : ℕ) → x < 4294967296 → y < 4294967296 → x * y ≤ 18446744065119617025
-product x y h l = mul-le-mul {n₁ = x} {m₁ = y} {n₂ = 4294967295} {m₂ = 4294967295} (omega arith) (omega arith)
+-- the product of a mix leaves room for what is added to it
+pub product : (x y : ℕ) → x ≤ 6442450943 → y ≤ 2147483647 → x * y ≤ 13835058046692229121
+product x y h l = mul-le-mul {n₁ = x} {m₁ = y} {n₂ = 6442450943} {m₂ = 2147483647} (omega arith) (omega arith)
 
 pub mixed-small : (m : Mix) (w v : ℕ) → Small m → w < wordsBelow → v < wordsBelow → Small (mixedOf m w v)
 unfolding mixedOf

@@ -29,8 +29,8 @@ pub const SLOTS: usize = 2048;
 // In how many slots a code is looked for.
 const PROBES: usize = 32;
 
-// 2 ^ 31.
-const WORDS_BELOW: u64 = 2147483648;
+// 2 ^ 30.
+const FACTORS_BELOW: u64 = 1073741824;
 
 // What the bytes of a code that were read come to.
 struct Mix {
@@ -59,14 +59,14 @@ fn wide(byte: u8) -> u64
     byte as u64
 }
 
-// Four bytes as a number below 2 ^ 31.
+// Four bytes as a number.
 fn word(t: &[u8], at: usize) -> u64
     requires { ⌜ at + 4 ≤ length (now t) ⌝ }
     ensures { λ r. ⌜ (r ≡ wordAt (now (t .entry)) at) × (r < wordsBelow) ⌝ }
 {
     let low = wide(t[at]) + 256 * wide(t[at + 1]);
     let high = wide(t[at + 2]) + 256 * wide(t[at + 3]);
-    (low + 65536 * high) % WORDS_BELOW
+    low + 65536 * high
 }
 
 // Two words mixed in.
@@ -79,9 +79,9 @@ fn mixed(m: Mix, w: u64, v: u64) -> Mix
     let q = (m.c + v + 1) * (2 * m.d + 1);
     Mix {
         a: q / 8589934592,
-        b: (p + 2 * v) % WORDS_BELOW,
+        b: (p + 2 * v) % FACTORS_BELOW,
         c: p / 8589934592,
-        d: (q + 2 * w) % WORDS_BELOW,
+        d: (q + 2 * w) % FACTORS_BELOW,
     }
 }
 
@@ -92,9 +92,9 @@ fn blocks(t: &[u8], from: usize, k: usize, count: usize) -> Mix
 {
     let mut m = Mix {
         a: 314159265 + (k as u64),
-        b: 1327217884,
+        b: 764620624,
         c: 141421356,
-        d: 889516851,
+        d: 992991361,
     };
     let mut i = 0;
     while i < count {
@@ -172,7 +172,7 @@ fn onward(x: u64) -> u64
     requires { ⌜ x < marksBelow ⌝ }
     ensures { λ r. ⌜ (r ≡ onwardOf x) × (r < marksBelow) ⌝ }
 {
-    33550337 * (x % WORDS_BELOW) + x / WORDS_BELOW
+    33550337 * (x % 2147483648) + x / 2147483648
 }
 
 // Whether an entry is that of a stop with the code, whose mark is m.

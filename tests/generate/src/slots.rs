@@ -12,17 +12,17 @@ impl Mix {
     fn and(self, w: u64, v: u64) -> Mix {
         let p = (self.0 + w + 1) * (2 * self.1 + 1);
         let q = (self.2 + v + 1) * (2 * self.3 + 1);
-        Mix(q >> 33, (p + 2 * v) % (1 << 31), p >> 33, (q + 2 * w) % (1 << 31))
+        Mix(q >> 33, (p + 2 * v) % (1 << 30), p >> 33, (q + 2 * w) % (1 << 30))
     }
 }
 
 fn word(bytes: &[u8]) -> u64 {
-    bytes.iter().rev().fold(0, |sum, byte| sum << 8 | u64::from(*byte)) % (1 << 31)
+    bytes.iter().rev().fold(0, |sum, byte| sum << 8 | u64::from(*byte))
 }
 
 /// The mark of a code of whole blocks of eight bytes.
 fn mark(code: &[u8]) -> u64 {
-    let start = Mix(314_159_265 + code.len() as u64, 1_327_217_884, 141_421_356, 889_516_851);
+    let start = Mix(314_159_265 + code.len() as u64, 764_620_624, 141_421_356, 992_991_361);
     let mixed = |m: Mix, block: &[u8]| m.and(word(&block[..4]), word(&block[4..]));
     let z = code.chunks(8).fold(start, mixed);
     ((z.0 + z.2) << 23) + z.1 + z.3
