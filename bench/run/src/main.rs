@@ -12,7 +12,7 @@ mod report;
 use generate::asks::{self, Ask, Kind, KINDS};
 use generate::days::{self, Day};
 use generate::tables::{self, Sets};
-use generate::{example, texts, Rng};
+use generate::{example, slots, texts, Rng};
 use measure::{row, Row};
 use report::Growth;
 use std::hint::black_box;
@@ -45,14 +45,13 @@ fn reads(rows: &mut Vec<Row>) {
     let mut rng = Rng::new(1);
     let city = days::city(&mut rng);
     let short_codes: Vec<Vec<u8>> = (0..255).map(|i| format!("S{i}").into_bytes()).collect();
+    let late_codes: Vec<Vec<u8>> = (0..255).map(slots::late_code).collect();
     let inputs = [
         ("T", example::T.to_vec()),
         ("city, short codes", texts::text(&city, &short_codes)),
         ("255 codes of 64 bytes, 4,096 runs", texts::greatest_good(&mut rng)),
-        (
-            "255 codes of 64 bytes made for one bucket",
-            texts::text(&city, &texts::codes_of_one_bucket()),
-        ),
+        ("255 codes of 64 bytes that differ late", texts::text(&city, &late_codes)),
+        ("255 codes of 64 bytes made for taken slots", texts::text(&city, &slots::codes(1 << 14))),
         ("1,048,576 bytes, refused at the last line", texts::filled_to(&mut rng, 1_048_576)),
     ];
     for (name, text) in &inputs {

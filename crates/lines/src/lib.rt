@@ -115,14 +115,13 @@ fn fields_at(text: &[u8], from: usize, to: usize) -> FieldsRead
 fn stop_line(
     text: &[u8],
     codes: &[u32],
-    heads: &[u16],
-    nexts: &[u16],
+    slots: &[u64],
     stops: u32,
     runs: u32,
     from: usize,
     to: usize,
 ) -> Line
-    requires { ⌜ Indexed (now text) (now codes) stops (now heads) (now nexts) ⌝ }
+    requires { ⌜ Indexed (now text) (now codes) stops (now slots) ⌝ }
     requires { ⌜ Stretch (now text) from to ⌝ }
     ensures { λ r. ⌜ r ≡ stopLine (now (text .entry)) (now (codes .entry)) stops runs from to ⌝ }
 {
@@ -133,7 +132,7 @@ fn stop_line(
     if !words::is_code(text, from, n) {
         return Line::Bad(Refusal::CODE_BAD);
     }
-    let j = lookup::find(text, codes, heads, nexts, stops, text, from, n);
+    let j = lookup::find(text, codes, slots, stops, text, from, n);
     if j < stops {
         return Line::Bad(Refusal::CODE_REPEATED);
     }
@@ -150,39 +149,20 @@ fn stop_line(
 fn run_fields(
     text: &[u8],
     codes: &[u32],
-    heads: &[u16],
-    nexts: &[u16],
+    slots: &[u64],
     stops: u32,
     runs: u32,
     fields: Fields,
 ) -> Line
-    requires { ⌜ Indexed (now text) (now codes) stops (now heads) (now nexts) ⌝ }
+    requires { ⌜ Indexed (now text) (now codes) stops (now slots) ⌝ }
     requires { ⌜ FieldsWithin (now text) fields ⌝ }
     ensures { λ r. ⌜ r ≡ runFields (now (text .entry)) (now (codes .entry)) stops runs fields ⌝ }
 {
     let from = fields.from;
     let to = fields.to;
     let numbers = fields.numbers;
-    let u = lookup::find(
-        text,
-        codes,
-        heads,
-        nexts,
-        stops,
-        text,
-        from.at,
-        from.end - from.at,
-    );
-    let v = lookup::find(
-        text,
-        codes,
-        heads,
-        nexts,
-        stops,
-        text,
-        to.at,
-        to.end - to.at,
-    );
+    let u = lookup::find(text, codes, slots, stops, text, from.at, from.end - from.at);
+    let v = lookup::find(text, codes, slots, stops, text, to.at, to.end - to.at);
     let r = Run::new(stops, u, v, numbers.dep, numbers.arr, numbers.trip);
     match r {
         RunRead::Bad(refused) => Line::Bad(refused),
@@ -199,14 +179,13 @@ fn run_fields(
 fn run_line(
     text: &[u8],
     codes: &[u32],
-    heads: &[u16],
-    nexts: &[u16],
+    slots: &[u64],
     stops: u32,
     runs: u32,
     from: usize,
     to: usize,
 ) -> Line
-    requires { ⌜ Indexed (now text) (now codes) stops (now heads) (now nexts) ⌝ }
+    requires { ⌜ Indexed (now text) (now codes) stops (now slots) ⌝ }
     requires { ⌜ Stretch (now text) from to ⌝ }
     ensures { λ r. ⌜ r ≡ runLine (now (text .entry)) (now (codes .entry)) stops runs from to ⌝ }
 {
@@ -216,7 +195,7 @@ fn run_line(
     let shape = fields_at(text, from, to);
     match shape {
         FieldsRead::Bad(refused) => Line::Bad(refused),
-        FieldsRead::Good(fields) => run_fields(text, codes, heads, nexts, stops, runs, fields),
+        FieldsRead::Good(fields) => run_fields(text, codes, slots, stops, runs, fields),
     }
 }
 
@@ -224,22 +203,21 @@ fn run_line(
 pub fn line_at(
     text: &[u8],
     codes: &[u32],
-    heads: &[u16],
-    nexts: &[u16],
+    slots: &[u64],
     stops: u32,
     runs: u32,
     from: usize,
     to: usize,
 ) -> Line
-    requires { ⌜ Indexed (now text) (now codes) stops (now heads) (now nexts) ⌝ }
+    requires { ⌜ Indexed (now text) (now codes) stops (now slots) ⌝ }
     requires { ⌜ Stretch (now text) from to ⌝ }
     ensures { λ r. ⌜ r ≡ lineOf (now (text .entry)) (now (codes .entry)) stops runs from to ⌝ }
 {
     if words::begins(text, from, to, b"run ") {
-        return run_line(text, codes, heads, nexts, stops, runs, from + 4, to);
+        return run_line(text, codes, slots, stops, runs, from + 4, to);
     }
     if words::begins(text, from, to, b"stop ") {
-        return stop_line(text, codes, heads, nexts, stops, runs, from + 5, to);
+        return stop_line(text, codes, slots, stops, runs, from + 5, to);
     }
     if words::is_word(text, from, to, b"end") {
         if 0 < stops {

@@ -1,73 +1,134 @@
 -- A code put into the list and into the index.
-use Prim.Native.Nat.{ℕ, zero, suc, _+_, _*_, _≤_, _<_}
+use Prim.Native.Nat.{ℕ, zero, suc, _+_, _*_, _%_, _≤_, _<_}
 use mathlib.Core.Path.{_≡_, refl, sym, _∙_}
 use mathlib.Core.List.{List}
-use mathlib.Core.Bool.{cond}
+use mathlib.Core.Logic.{_⊎_, inl, inr}
+use mathlib.Core.Bool.{Bool, true, false}
 use native.Mathlib.Omega.{arith}
-use native.Mathlib.Numerals.{add-one}
-use native.Mathlib.Decide.{ℕ-discrete}
-use lib.ListN.{length, getD, set, replicate, length-set, length-replicate, getD-replicate}
+use native.Mathlib.Decide.{ℕ-discrete, decLt}
+use lib.ListN.{length, getD, set, replicate, length-set, length-replicate, getD-replicate, List·getD-eq-default}
 use lib.Seq.{getD-set-same, getD-set-other}
-use lib.Dec.{eqb}
-use borrow.Author.Tests.{eq-eqb, ne-eqb}
 use Rattle.kinds.specs.Limits.{mostStops}
-use Rattle.lookup.specs.Lookup.{startOf, lengthOf, putCode}
-use Rattle.lookup.specs.LookupLaws.{Placed, start-put, length-put, start-kept, length-kept, placed-more}
-use Rattle.lookup.specs.Index.{buckets, bucketOf, bucketAt, lastIn, Indexed}
+use Rattle.lookup.specs.Lookup.{startOf, lengthOf, hasCode, stopNamed, putCode}
+use Rattle.lookup.specs.LookupLaws.{Placed, start-put, length-put, start-kept, length-kept, placed-more, has-kept, none-named}
+use Rattle.lookup.specs.Mark.{marksBelow, markOf}
+use Rattle.lookup.specs.Index.{slotCount, probes, way, placeOf, probed, entryOf, AtHome, markAt, Indexed, Enterable, Vacant, Stood}
 
-module _ (s codes : List ℕ) (j start n : ℕ) where
-  bucket-kept : (i : ℕ) → i < j → bucketAt s (putCode codes j start n) i ≡ bucketAt s codes i
-  bucket-kept i h = rw (start-kept codes j start n i h, length-kept codes j start n i h)
-
-  last-kept : (b k : ℕ) → k ≤ j → lastIn s (putCode codes j start n) b k ≡ lastIn s codes b k
-  unfolding lastIn
-  last-kept b zero h = refl
-  last-kept b (suc k) h = rw (bucket-kept k (omega arith), last-kept b k (omega arith))
-
-  bucket-new : 2 * j + 2 ≤ length codes → bucketAt s (putCode codes j start n) j ≡ bucketOf s start n
-  bucket-new h = rw (start-put codes j start n h, length-put codes j start n h)
-
-  last-new : 2 * j + 2 ≤ length codes → (b : ℕ) → bucketOf s start n ≡ b → lastIn s (putCode codes j start n) b (j + 1) ≡ j + 1
-  unfolding lastIn
-  last-new h b e = rw (add-one j, eq-eqb _ _ (bucket-new h ∙ e))
-
-  last-other : 2 * j + 2 ≤ length codes → (b : ℕ) → (bucketOf s start n ≡ b → ⊥) → lastIn s (putCode codes j start n) b (j + 1) ≡ lastIn s codes b j
-  unfolding lastIn
-  last-other h b d = rw (add-one j, ne-eqb _ _ (λ e. d (sym (bucket-new h) ∙ e))) (last-kept b j (omega arith))
-
-module _ {s codes : List ℕ} {j : ℕ} {heads nexts : List ℕ} (x : Indexed s codes j heads nexts) (start n : ℕ) where
-  pub entered : j < mostStops → 2 * j + 2 ≤ length codes → start + n ≤ length s → (b : ℕ) → b ≡ bucketOf s start n → b < buckets →
-      Indexed s (putCode codes j start n) (j + 1) (set heads b (j + 1)) (set nexts j (getD heads b 0))
-  entered few room within b e lt =
+-- a stop put into the first empty slot, or nowhere
+module _ {slots : List ℕ} {m p : ℕ} (v : Vacant slots m p) (j : ℕ) where
+  pub stood-there : p < slotCount → length slots ≡ slotCount → Stood slots (set slots p (entryOf m j)) m j
+  stood-there h long =
       record {
-        codes-placed = placed-more codes j start n (x .codes-placed) room within;
-        few = omega arith;
-        heads-long = simp length-set (x .heads-long);
-        nexts-long = simp length-set (x .nexts-long);
-        head = λ k h. head-of k h (ℕ-discrete k b);
-        next = λ i h. next-of i h (ℕ-discrete i j);
+        long = length-set slots p (entryOf m j);
+        kept = λ q l. getD-set-other slots p q (entryOf m j) 0 (λ e. omega (arith, v .empty h .1, rw e at l));
+        only = λ q. only q (ℕ-discrete q p);
+        home = λ i l e. home i l e (decLt (v .turn) i);
       }
     where
-      head-of : (k : ℕ) → k < buckets → Dec (k ≡ b) → getD (set heads b (j + 1)) k 0 ≡ lastIn s (putCode codes j start n) k (j + 1)
-      head-of k h (yes d) = rw (last-new s codes j start n room k (sym e ∙ sym d), d) (getD-set-same heads b (j + 1) 0 (omega (arith, x .heads-long)))
-      head-of k h (no d) = rw (last-other s codes j start n room k (λ f. d (sym f ∙ sym e)), getD-set-other heads b k (j + 1) 0 d) (x .head k h)
+      here : getD (set slots p (entryOf m j)) p 0 ≡ entryOf m j
+      here = getD-set-same slots p (entryOf m j) 0 (omega arith)
 
-      next-of : (i : ℕ) → i < j + 1 → Dec (i ≡ j) →
-          getD (set nexts j (getD heads b 0)) i 0 ≡ lastIn s (putCode codes j start n) (bucketAt s (putCode codes j start n) i) i
-      next-of i h (yes d) =
-          rw (d, bucket-new s codes j start n room, last-kept s codes j start n (bucketOf s start n) j (omega arith), getD-set-same nexts j (getD heads b 0) 0 (omega (arith, x .nexts-long)), ← e) (x .head b lt)
-      next-of i h (no d) =
-          rw (getD-set-other nexts j i (getD heads b 0) 0 d, bucket-kept s codes j start n i (omega arith), last-kept s codes j start n (bucketAt s codes i) i (omega arith)) (x .next i (omega arith))
+      other : (q : ℕ) → (q ≡ p → ⊥) → getD (set slots p (entryOf m j)) q 0 ≡ getD slots q 0
+      other q d = getD-set-other slots p q (entryOf m j) 0 d
+
+      only : (q : ℕ) → Dec (q ≡ p) → (getD (set slots p (entryOf m j)) q 0 ≡ getD slots q 0) ⊎ (getD (set slots p (entryOf m j)) q 0 ≡ entryOf m j)
+      only q (yes e) = inr (rw e here)
+      only q (no d) = inl (other q d)
+
+      -- a slot of the way that is not behind the new stop's is taken
+      full : (i : ℕ) → i ≤ v .turn → Dec (placeOf (way m i) ≡ p) → 0 < probed (set slots p (entryOf m j)) m i
+      full i l (yes e) = rw (e, here) (omega arith)
+      full i l (no d) = rw (other (placeOf (way m i)) d) (v .taken i (before (ℕ-discrete i (v .turn))))
+        where
+          before : Dec (i ≡ v .turn) → i < v .turn
+          before (yes e) = absurd (d (rw e (sym (v .empty h .0))))
+          before (no e) = omega arith
+
+      home : (i : ℕ) → i < probes → probed (set slots p (entryOf m j)) m i ≡ 0 → Dec (v .turn < i) →
+          (k : ℕ) × (k < i) × (probed (set slots p (entryOf m j)) m k ≡ entryOf m j)
+      home i l e (yes b) = (v .turn, b, rw (← v .empty h .0) here)
+      home i l e (no b) = absurd (omega (arith, e, full i (omega arith) (ℕ-discrete (placeOf (way m i)) p)))
+
+  pub stood-nowhere : slotCount ≤ p → Stood slots slots m j
+  stood-nowhere h =
+      record {
+        long = refl;
+        kept = λ q l. refl;
+        only = λ q. inl refl;
+        home = λ i l e. absurd (omega (arith, e, v .taken i (omega (arith, v .full h))));
+      }
+
+module _ (s codes : List ℕ) (j start n : ℕ) where
+  mark-kept : (i : ℕ) → i < j → markAt s (putCode codes j start n) i ≡ markAt s codes i
+  mark-kept i h = rw (start-kept codes j start n i h, length-kept codes j start n i h)
+
+  mark-new : 2 * j + 2 ≤ length codes → markAt s (putCode codes j start n) j ≡ markOf s start n
+  mark-new h = rw (start-put codes j start n h, length-put codes j start n h)
+
+-- a stop that stood in the index still does
+home-kept : {before after : List ℕ} {m j : ℕ} → Stood before after m j → (w i : ℕ) → AtHome before w i → AtHome after w i
+home-kept {before} {after} {m} {j} x w i h k l e =
+    let was : probed before w k ≡ 0 = empty (placeOf (way w k)) e in
+    let (q, b, there) = h k l was in
+    (q, b, x .kept (placeOf (way w q)) (omega (arith, there)) ∙ there)
+  where
+    empty : (p : ℕ) → getD after p 0 ≡ 0 → getD before p 0 ≡ 0
+    empty p z = go (getD before p 0) refl
+      where
+        go : (y : ℕ) → getD before p 0 ≡ y → y ≡ 0
+        go zero d = refl
+        go (suc y) d = absurd (omega (arith, z, d, x .kept p (omega (arith, d))))
+
+-- no stop has the code that is entered
+pub enterable-new : {s codes : List ℕ} {j start n : ℕ} → Enterable s codes j start n → j ≡ stopNamed s codes j s start n
+unfolding stopNamed
+enterable-new {s} {codes} {j} {start} {n} y = none-named s codes s start n j j (y .new)
+
+module _ {s codes : List ℕ} {j : ℕ} {slots : List ℕ} (x : Indexed s codes j slots) {start n : ℕ} (y : Enterable s codes j start n) where
+  pub entered : {m : ℕ} {after : List ℕ} → m ≡ markOf s start n → Stood slots after m j → Indexed s (putCode codes j start n) (j + 1) after
+  entered {m} {after} e z =
+      record {
+        codes-placed = placed-more codes j start n (x .codes-placed) (y .room) (y .within);
+        few = omega (arith, y .few);
+        slots-long = z .long ∙ x .slots-long;
+        no-two = λ i h k l. no-two i h k l (ℕ-discrete i j);
+        known = λ p h. known p h (z .only p);
+        home = λ i h. home i h (ℕ-discrete i j);
+      }
+    where
+      no-two : (i : ℕ) → i < j + 1 → (k : ℕ) → k < i → Dec (i ≡ j) →
+          hasCode s (putCode codes j start n) s (startOf (putCode codes j start n) i) (lengthOf (putCode codes j start n) i) k ≡ false
+      no-two i h k l (yes d) =
+          rw (d, start-put codes j start n (y .room), length-put codes j start n (y .room), has-kept s codes s start n j start n k (omega arith)) (y .new k (omega arith))
+      no-two i h k l (no d) =
+          let i′ : i < j = omega arith in
+          rw (start-kept codes j start n i i′, length-kept codes j start n i i′, has-kept s codes s (startOf codes i) (lengthOf codes i) j start n k (omega arith)) (x .no-two i i′ k l)
+
+      known : (p : ℕ) → 0 < getD after p 0 → (getD after p 0 ≡ getD slots p 0) ⊎ (getD after p 0 ≡ entryOf m j) →
+          (0 < getD after p 0 % 256) × (getD after p 0 % 256 ≤ j + 1)
+      known p h (inl d) =
+          let k = x .known p (rw d at h) in
+          rw d (k .0, omega (arith, k .1))
+      known p h (inr d) = rw d (omega (arith, y .few), omega (arith, y .few))
+
+      home : (i : ℕ) → i < j + 1 → Dec (i ≡ j) → AtHome after (markAt s (putCode codes j start n) i) i
+      home i h (yes d) = rw (d, mark-new s codes j start n (y .room), ← e) (z .home)
+      home i h (no d) =
+          let i′ : i < j = omega arith in
+          rw (mark-kept s codes j start n i i′) (home-kept z (markAt s codes i) i (x .home i i′))
+
+nothing : (n p : ℕ) → Dec (p < n) → getD {A = ℕ} (replicate n 0) p 0 ≡ 0
+nothing n p (yes h) = getD-replicate {A = ℕ} n p 0 0 h
+nothing n p (no h) = List·getD-eq-default {A = ℕ} (replicate n 0) 0 (simp (length-replicate {A = ℕ}) (omega arith))
 
 -- the index of no codes is all zero
-pub entered-none : (s codes : List ℕ) → Indexed s codes 0 (replicate buckets 0) (replicate mostStops 0)
-unfolding lastIn
+pub entered-none : (s codes : List ℕ) → Indexed s codes 0 (replicate slotCount 0)
 entered-none s codes =
     record {
       codes-placed = record { listed = omega arith; placed = λ j h. absurd (omega arith) };
       few = omega arith;
-      heads-long = length-replicate {A = ℕ} buckets 0;
-      nexts-long = length-replicate {A = ℕ} mostStops 0;
-      head = λ b h. getD-replicate {A = ℕ} buckets b 0 0 h;
-      next = λ j h. absurd (omega arith);
+      slots-long = length-replicate {A = ℕ} slotCount 0;
+      no-two = λ j h. absurd (omega arith);
+      known = λ p h. absurd (omega (arith, nothing slotCount p (decLt p slotCount)));
+      home = λ j h. absurd (omega arith);
     }

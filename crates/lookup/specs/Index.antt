@@ -1,51 +1,81 @@
--- An index of the codes, so that a code is compared with few others: stops are strung together by a number that equal codes share.
--- No meaning rests on it: what is looked up is said in Lookup.antt.
-use Prim.Native.Nat.{ℕ, zero, suc, _+_, _*_, _%_, _≤_, _<_}
+-- An index of the codes, so that a code is compared with few others. Each stop stands in one of the slots that its mark leads to, one after the
+-- other: the first that was empty when it came. No meaning rests on it: what is looked up is said in Lookup.antt.
+use Prim.Native.Nat.{ℕ, zero, suc, _+_, _*_, _-_, _/_, _%_, _≤_, _<_}
 use mathlib.Core.Path.{_≡_}
 use mathlib.Core.List.{List}
-use mathlib.Core.Bool.{Bool, true, false, cond}
+use mathlib.Core.Logic.{_⊎_}
+use mathlib.Core.Bool.{Bool, false, cond}
 use lib.ListN.{length, getD}
-use lib.Dec.{eqb, ltb}
-use Rattle.kinds.specs.Limits.{mostStops, mostCode, mostText}
-use Rattle.lookup.specs.Lookup.{startOf, lengthOf}
+use lib.Dec.{eqb}
+use Rattle.kinds.specs.Limits.{mostStops, mostText}
+use Rattle.lookup.specs.Lookup.{startOf, lengthOf, hasCode}
 use Rattle.lookup.specs.LookupLaws.{Placed}
+use Rattle.lookup.specs.Mark.{markOf}
 
-abbrev pub buckets : ℕ
-buckets = 1021
+abbrev pub slotCount : ℕ
+slotCount = 2048
 
--- k bytes from a on, each weighed by the square of its place, so that codes that differ in few places, or in the order of some bytes, seldom
--- share a sum. (With weights that rise evenly they often do. The number of buckets is a prime, since many weights are even.)
-unfoldable pub weighed : List ℕ → ℕ → ℕ → ℕ
-weighed t a zero = 0
-weighed t a (suc k) = weighed t a k + (k + 5) * (k + 5) * getD t (a + k) 0
+-- In so many slots a code is looked for; then the plain search decides. At most an eighth of the slots are taken, so that a code comes that far only
+-- where it was made for it.
+abbrev pub probes : ℕ
+probes = 32
 
--- as many bytes as a code has at most
-unfoldable pub weighedBytes : ℕ → ℕ
-weighedBytes n = cond (ltb n mostCode) n mostCode
+-- The numbers that a mark leads to, one after the other (a product and its carry), and the slot that each stands for.
+unfoldable pub onwardOf : ℕ → ℕ
+onwardOf x = 33550337 * (x % 2147483648) + x / 2147483648
 
-unfoldable pub bucketOf : List ℕ → ℕ → ℕ → ℕ
-bucketOf t a n = weighed t a (weighedBytes n) % buckets
+unfoldable pub way : ℕ → ℕ → ℕ
+way m zero = m
+way m (suc i) = onwardOf (way m i)
 
-abbrev pub bucketAt : List ℕ → List ℕ → ℕ → ℕ
-bucketAt s codes j = bucketOf s (startOf codes j) (lengthOf codes j)
+unfoldable pub placeOf : ℕ → ℕ
+placeOf x = x / 8388608 % slotCount
 
--- one more than the last of the first k stops in bucket b; 0 where none is
-unfoldable pub lastIn : List ℕ → List ℕ → ℕ → ℕ → ℕ
-lastIn s codes b zero = 0
-lastIn s codes b (suc k) = cond (eqb (bucketAt s codes k) b) (suc k) (lastIn s codes b k)
+-- what stands in slot i of the mark's way
+abbrev pub probed : List ℕ → ℕ → ℕ → ℕ
+probed slots m i = getD slots (placeOf (way m i)) 0
 
--- heads leads from a bucket to its last stop, nexts from a stop to the one before it in its bucket
-pub record Indexed (s codes : List ℕ) (stops : ℕ) (heads nexts : List ℕ) : Type 0 where
+-- What stands in a stop's slot: its mark and one more than its number. In an empty slot 0 stands.
+abbrev pub entryOf : ℕ → ℕ → ℕ
+entryOf m j = 256 * m + (j + 1)
+
+-- an entry is that of a stop with the code, n bytes of t from a on, whose mark is m
+unfoldable pub isEntry : List ℕ → List ℕ → ℕ → ℕ → List ℕ → ℕ → ℕ → Bool
+isEntry s codes e m t a n = cond (eqb (e / 256) m) (hasCode s codes t a n (e % 256 - 1)) false
+
+-- a stop stands before the first empty slot of its way; where its way has none, it need not stand anywhere
+abbrev pub AtHome : List ℕ → ℕ → ℕ → Type 0
+AtHome slots m j = (i : ℕ) → i < probes → probed slots m i ≡ 0 → (k : ℕ) × (k < i) × (probed slots m k ≡ entryOf m j)
+
+abbrev pub markAt : List ℕ → List ℕ → ℕ → ℕ
+markAt s codes j = markOf s (startOf codes j) (lengthOf codes j)
+
+pub record Indexed (s codes : List ℕ) (stops : ℕ) (slots : List ℕ) : Type 0 where
   pub codes-placed : Placed s codes stops
   pub few : stops ≤ mostStops
-  pub heads-long : length heads ≡ buckets
-  pub nexts-long : length nexts ≡ mostStops
-  pub head : (b : ℕ) → b < buckets → getD heads b 0 ≡ lastIn s codes b stops
-  pub next : (j : ℕ) → j < stops → getD nexts j 0 ≡ lastIn s codes (bucketAt s codes j) j
+  pub slots-long : length slots ≡ slotCount
+  pub no-two : (j : ℕ) → j < stops → (i : ℕ) → i < j → hasCode s codes s (startOf codes j) (lengthOf codes j) i ≡ false
+  pub known : (p : ℕ) → 0 < getD slots p 0 → (0 < getD slots p 0 % 256) × (getD slots p 0 % 256 ≤ stops)
+  pub home : (j : ℕ) → j < stops → AtHome slots (markAt s codes j) j
 
--- there is room for one more code, of n bytes from start on
+-- there is room for one more code, of n bytes from start on, and no stop has it
 pub record Enterable (s codes : List ℕ) (stops start n : ℕ) : Type 0 where
   pub few : stops < mostStops
   pub room : 2 * stops + 2 ≤ length codes
   pub within : start + n ≤ length s
   pub short : length s ≤ mostText
+  pub new : (i : ℕ) → i < stops → hasCode s codes s start n i ≡ false
+
+-- p is the first empty slot of the mark's way, which is slot `turn` of it, or no slot where there is none
+pub record Vacant (slots : List ℕ) (m p : ℕ) : Type 0 where
+  pub turn : ℕ
+  pub taken : (k : ℕ) → k < turn → 0 < probed slots m k
+  pub empty : p < slotCount → (p ≡ placeOf (way m turn)) × (getD slots p 0 ≡ 0)
+  pub full : slotCount ≤ p → probes ≤ turn
+
+-- stop j put into the index: what stood there still does, nothing else was put there, and j is at home
+pub record Stood (before after : List ℕ) (m j : ℕ) : Type 0 where
+  pub long : length after ≡ length before
+  pub kept : (p : ℕ) → 0 < getD before p 0 → getD after p 0 ≡ getD before p 0
+  pub only : (p : ℕ) → (getD after p 0 ≡ getD before p 0) ⊎ (getD after p 0 ≡ entryOf m j)
+  pub home : AtHome after m j

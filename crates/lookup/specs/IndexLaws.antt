@@ -1,147 +1,126 @@
--- Laws of the index: equal codes share a bucket, so that stops of other buckets are passed over.
-use Prim.Native.Nat.{ℕ, zero, suc, _+_, _*_, _-_, _%_, _≤_, _<_}
-use mathlib.Core.Path.{_≡_, refl, sym, ap, _∙_}
+-- The walk along a mark's way: what is known of the slots that were passed, and what an empty slot or the stop's entry says.
+use Prim.Native.Nat.{ℕ, zero, suc, _+_, _*_, _-_, _/_, _%_, _≤_, _<_}
+use mathlib.Core.Path.{_≡_, refl, sym, _∙_}
 use mathlib.Core.List.{List}
 use mathlib.Core.Bool.{Bool, true, false, cond}
 use native.Mathlib.Omega.{arith}
-use native.Mathlib.Nat.{mul-le-mul, mod-lt}
 use native.Mathlib.Numerals.{add-one}
-use lib.ListN.{length, getD, set}
-use lib.Dec.{eqb, ltb}
-use borrow.Author.Tests.{eqb-true, eqb-false, ltb-true, ltb-false, eq-eqb, ne-eqb}
+use native.Mathlib.Decide.{ℕ-discrete}
+use lib.ListN.{length, getD}
+use lib.Dec.{eqb}
+use borrow.Author.Tests.{eqb-true, eq-eqb}
 use Rattle.loops.specs.Chain.{stays}
-use Rattle.loops.specs.Every.{sameB}
-use Rattle.loops.specs.EveryLaws.{same-at}
-use Rattle.kinds.specs.Limits.{mostStops, mostCode}
-use Rattle.lookup.specs.Lookup.{startOf, lengthOf, hasCode, stopIn}
-use Rattle.lookup.specs.LookupLaws.{Scanning, scanning-all, scanning-next}
-use Rattle.lookup.specs.Index.{buckets, weighed, weighedBytes, bucketOf, bucketAt, lastIn, Indexed}
+use Rattle.kinds.specs.Limits.{mostStops}
+use Rattle.lookup.specs.Lookup.{startOf, lengthOf, hasCode, stopNamed}
+use Rattle.lookup.specs.LookupLaws.{none-named, one-named, has-told, has-both}
+use Rattle.lookup.specs.Mark.{marksBelow, markOf}
+use Rattle.lookup.specs.MarkLaws.{mark-same}
+use Rattle.lookup.specs.Index.{slotCount, probes, onwardOf, way, placeOf, probed, entryOf, isEntry, markAt, Indexed, Vacant}
 
-weighed-same : (s : List ℕ) (a : ℕ) (t : List ℕ) (b m : ℕ) → ((k : ℕ) → k < m → getD s (a + k) 0 ≡ getD t (b + k) 0) → weighed s a m ≡ weighed t b m
-unfolding weighed
-weighed-same s a t b zero h = refl
-weighed-same s a t b (suc m) h = rw (weighed-same s a t b m (λ k l. h k (omega arith)), h m (omega arith))
+-- a stop with the code has the code's mark
+code-mark : (s codes t : List ℕ) (a n j : ℕ) → hasCode s codes t a n j ≡ true → markAt s codes j ≡ markOf t a n
+code-mark s codes t a n j e =
+    let z = has-told s codes t a n j e in
+    rw (z .0) (mark-same s (startOf codes j) t a n (z .1))
 
-pub weighed-few : (n : ℕ) → (weighedBytes n ≤ n) × (weighedBytes n ≤ mostCode)
-unfolding weighedBytes
-weighed-few n = go (ltb n mostCode) (ltb-true n mostCode) (ltb-false n mostCode)
-  where
-    go : (b : Bool) → (b ≡ true → n < mostCode) → (b ≡ false → mostCode ≤ n) → (cond b n mostCode ≤ n) × (cond b n mostCode ≤ mostCode)
-    go true f g = (omega arith, omega (arith, f refl))
-    go false f g = (omega (arith, g refl), omega arith)
+-- x is number i on the mark's way
+pub record Along (m x i : ℕ) : Type 0 where
+  pub is : x ≡ way m i
+  pub small : x < marksBelow
+  pub low : i ≤ probes
 
-pub bucket-same : (s : List ℕ) (a : ℕ) (t : List ℕ) (b n : ℕ) → sameB s a t b n ≡ true → bucketOf s a n ≡ bucketOf t b n
-unfolding bucketOf
-bucket-same s a t b n e =
-    ap (λ (w : ℕ). w % buckets) (weighed-same s a t b (weighedBytes n) (λ k l. same-at s a t b n e k (omega (arith, weighed-few n))))
+pub along-none : (m : ℕ) → m < marksBelow → Along m m 0
+unfolding way
+along-none m h = record { is = refl; small = h; low = omega arith }
 
--- a stop with the code is in the code's bucket
-code-bucket : (s codes t : List ℕ) (a n j : ℕ) → hasCode s codes t a n j ≡ true → bucketAt s codes j ≡ bucketOf t a n
-unfolding hasCode
-code-bucket s codes t a n j e =
-    let z = stays (eqb (lengthOf codes j) n) e (λ x. let y : _≡_ {A = ℕ} 0 1 = cc in omega arith) in
-    rw (eqb-true (lengthOf codes j) n (z .0)) (bucket-same s (startOf codes j) t a n (z .1))
+pub along-more : {m x y i : ℕ} → Along m x i → i < probes → y ≡ onwardOf x → y < marksBelow → Along m y (i + 1)
+unfolding way
+along-more f h e l = record { is = rw (add-one, e, ← f .is); small = l; low = omega arith }
 
-module _ (s codes : List ℕ) (b : ℕ) where
-  pub last-le : (k : ℕ) → lastIn s codes b k ≤ k
-  unfolding lastIn
-  last-le zero = omega arith
-  last-le (suc k) = go (eqb (bucketAt s codes k) b) (last-le k)
-    where
-      go : (x : Bool) → lastIn s codes b k ≤ k → cond x (suc k) (lastIn s codes b k) ≤ suc k
-      go true h = omega arith
-      go false h = omega arith
+-- the slot that x stands for
+pub along-slot : {m x p i : ℕ} (slots : List ℕ) → Along m x i → p ≡ placeOf x → getD slots p 0 ≡ probed slots m i
+along-slot slots f e = rw (e, f .is)
 
-  pub last-mine : (k : ℕ) → 0 < lastIn s codes b k → bucketAt s codes (lastIn s codes b k - 1) ≡ b
-  unfolding lastIn
-  last-mine zero h = absurd (omega arith)
-  last-mine (suc k) h = go (eqb (bucketAt s codes k) b) (eqb-true (bucketAt s codes k) b) (last-mine k) h
-    where
-      go : (x : Bool) → (x ≡ true → bucketAt s codes k ≡ b) → (0 < lastIn s codes b k → bucketAt s codes (lastIn s codes b k - 1) ≡ b) →
-          0 < cond x (suc k) (lastIn s codes b k) → bucketAt s codes (cond x (suc k) (lastIn s codes b k) - 1) ≡ b
-      go true f r g = let e : suc k - 1 ≡ k = omega arith in rw e (f refl)
-      go false f r g = r g
+-- the slots that were passed are taken, and none of them has a stop with the code
+pub record Finding (s codes slots t : List ℕ) (a n m x i : ℕ) : Type 0 where
+  pub along : Along m x i
+  pub taken : (k : ℕ) → k < i → 0 < probed slots m k
+  pub passed : (k : ℕ) → k < i → (j : ℕ) → j < mostStops → probed slots m k ≡ entryOf m j → hasCode s codes t a n j ≡ false
 
-module _ (s codes t : List ℕ) (a n none : ℕ) where
-  -- stops of other buckets are passed over
-  pub skip : (k : ℕ) → stopIn s codes t a n none k ≡ stopIn s codes t a n none (lastIn s codes (bucketOf t a n) k)
-  unfolding stopIn lastIn
-  skip zero = refl
-  skip (suc k) = go (eqb (bucketAt s codes k) (bucketOf t a n)) (eqb-false (bucketAt s codes k) (bucketOf t a n)) (skip k)
-    where
-      off : (y : Bool) → (y ≡ true → ⊥) → stopIn s codes t a n none k ≡ stopIn s codes t a n none (lastIn s codes (bucketOf t a n) k) →
-          cond y k (stopIn s codes t a n none k) ≡ stopIn s codes t a n none (lastIn s codes (bucketOf t a n) k)
-      off true f r = absurd (f refl)
-      off false f r = r
+pub finding-none : (s codes slots t : List ℕ) (a n m : ℕ) → m < marksBelow → Finding s codes slots t a n m m 0
+finding-none s codes slots t a n m h = record { along = along-none m h; taken = λ k l. absurd (omega arith); passed = λ k l. absurd (omega arith) }
 
-      go : (x : Bool) → (x ≡ false → bucketAt s codes k ≡ bucketOf t a n → ⊥) →
-          stopIn s codes t a n none k ≡ stopIn s codes t a n none (lastIn s codes (bucketOf t a n) k) →
-          cond (hasCode s codes t a n k) k (stopIn s codes t a n none k) ≡ stopIn s codes t a n none (cond x (suc k) (lastIn s codes (bucketOf t a n) k))
-      go true f r = refl
-      go false f r = off (hasCode s codes t a n k) (λ e. f refl (code-bucket s codes t a n k e)) r
+-- an entry that is not that of a stop with the code
+not-entry : (s codes : List ℕ) (e m : ℕ) (t : List ℕ) (a n j : ℕ) → isEntry s codes e m t a n ≡ false → j < mostStops → e ≡ entryOf m j → hasCode s codes t a n j ≡ false
+unfolding isEntry
+not-entry s codes e m t a n j f l h =
+    let q : e / 256 ≡ m = omega arith in
+    let r : e % 256 - 1 ≡ j = omega arith in
+    rw (eq-eqb (e / 256) m q, r) at f
 
--- the loop that weighs the bytes: the sum stays small, as a code is short
-pub record Weighing (t : List ℕ) (a n m sum k : ℕ) : Type 0 where
-  pub bytes : m ≡ weighedBytes n
-  pub low : k ≤ m
-  pub is : sum ≡ weighed t a k
-  pub small : sum ≤ 1179120 * k
+pub is-entry : (s codes : List ℕ) (e m : ℕ) (t : List ℕ) (a n : ℕ) → isEntry s codes e m t a n ≡ true → hasCode s codes t a n (e % 256 - 1) ≡ true
+unfolding isEntry
+is-entry s codes e m t a n h = stays (eqb (e / 256) m) h (λ x. let y : _≡_ {A = ℕ} 0 1 = cc in omega arith) .1
 
-pub weighing-none : (t : List ℕ) (a n m : ℕ) → m ≡ weighedBytes n → Weighing t a n m 0 0
-unfolding weighed
-weighing-none t a n m e = record { bytes = e; low = omega arith; is = refl; small = omega arith }
-
-pub place-weight : (k : ℕ) → k < mostCode → (k + 5) * (k + 5) ≤ 4624
-place-weight k h = mul-le-mul {n₁ = k + 5} {m₁ = k + 5} {n₂ = 68} {m₂ = 68} (omega arith) (omega arith)
-
-pub byte-weight : (k b : ℕ) → k < mostCode → b < 256 → (k + 5) * (k + 5) * b ≤ 1179120
-byte-weight k b h l =
-    mul-le-mul {n₁ = (k + 5) * (k + 5)} {m₁ = b} {n₂ = 4624} {m₂ = 255} (place-weight k h) (omega arith)
-
-module _ {t : List ℕ} {a n m sum k : ℕ} (w : Weighing t a n m sum k) where
-  pub weighing-few : (m ≤ n) × (m ≤ mostCode)
-  weighing-few = omega (arith, w .bytes, weighed-few n)
-
-  pub weighing-more : k < m → getD t (a + k) 0 < 256 → Weighing t a n m (sum + (k + 5) * (k + 5) * getD t (a + k) 0) (k + 1)
-  unfolding weighed
-  weighing-more h l =
-      record {
-        bytes = w .bytes;
-        low = omega arith;
-        is = rw (add-one, ← w .is);
-        small = omega (arith, w .small, byte-weight k (getD t (a + k) 0) (omega (arith, weighing-few)) l);
-      }
-
-  pub weighing-end : m ≤ k → sum % buckets ≡ bucketOf t a n
-  unfolding bucketOf
-  weighing-end h =
-      let e : k ≡ m = omega (arith, w .low) in
-      rw (w .is, e, w .bytes)
-
--- the walk along a bucket: what is still to be looked through gives the whole answer
-pub record Finding (s codes : List ℕ) (stops : ℕ) (t : List ℕ) (a n k : ℕ) : Type 0 where
-  pub scanning : Scanning s codes stops t a n k
-  pub mine : 0 < k → bucketAt s codes (k - 1) ≡ bucketOf t a n
-
--- at the last of the first k stops in the code's bucket
-finding-at : {s codes : List ℕ} {stops : ℕ} {t : List ℕ} {a n k : ℕ} → Scanning s codes stops t a n k → Finding s codes stops t a n (lastIn s codes (bucketOf t a n) k)
-finding-at {s} {codes} {stops} {t} {a} {n} {k} f =
+pub finding-more : {s codes slots t : List ℕ} {a n m x y p i : ℕ} → Finding s codes slots t a n m x i → i < probes → p ≡ placeOf x →
+    0 < getD slots p 0 → isEntry s codes (getD slots p 0) m t a n ≡ false → y ≡ onwardOf x → y < marksBelow → Finding s codes slots t a n m y (i + 1)
+finding-more {s} {codes} {slots} {t} {a} {n} {m} {x} {y} {p} {i} f h e full g o l =
     record {
-      scanning =
-          record {
-            high = omega (arith, f .high, last-le s codes (bucketOf t a n) k);
-            rest = f .rest ∙ skip s codes t a n stops k;
-          };
-      mine = last-mine s codes (bucketOf t a n) k;
+      along = along-more (f .along) h o l;
+      taken = λ k b. taken k b (ℕ-discrete k i);
+      passed = λ k b j c d. go k b j c d (ℕ-discrete k i);
     }
+  where
+    taken : (k : ℕ) → k < i + 1 → Dec (k ≡ i) → 0 < probed slots m k
+    taken k b (yes z) = rw z (rw (along-slot slots (f .along) e) at full)
+    taken k b (no z) = f .taken k (omega arith)
 
-module _ {s codes : List ℕ} {stops : ℕ} {heads nexts : List ℕ} (x : Indexed s codes stops heads nexts) where
-  pub finding-less : (k : ℕ) → k ≤ stops → 0 < k → getD nexts (k - 1) 0 < k
-  finding-less k h l = omega (arith, x .next (k - 1) (omega arith), last-le s codes (bucketAt s codes (k - 1)) (k - 1))
+    go : (k : ℕ) → k < i + 1 → (j : ℕ) → j < mostStops → probed slots m k ≡ entryOf m j → Dec (k ≡ i) → hasCode s codes t a n j ≡ false
+    go k b j c d (yes z) = not-entry s codes (getD slots p 0) m t a n j g c (along-slot slots (f .along) e ∙ rw (← z) d)
+    go k b j c d (no z) = f .passed k (omega arith) j c d
 
-  pub finding-first : (t : List ℕ) (a n b : ℕ) → b ≡ bucketOf t a n → b < buckets → Finding s codes stops t a n (getD heads b 0)
-  finding-first t a n b e h = rw (x .head b h, e) (finding-at (scanning-all s codes stops t a n))
+-- an empty slot is the first one; behind the last slot there is none
+module _ {s codes slots t : List ℕ} {a n m x i : ℕ} (f : Finding s codes slots t a n m x i) where
+  pub finding-vacant : {p : ℕ} → p ≡ placeOf x → getD slots p 0 ≡ 0 → p < slotCount → Vacant slots m p
+  finding-vacant {p} e g l =
+      record { turn = i; taken = f .taken; empty = λ b. (e ∙ rw (f .along .is), g); full = λ b. absurd (omega arith) }
 
-  pub finding-next : {t : List ℕ} {a n k : ℕ} → Finding s codes stops t a n k → 0 < k → hasCode s codes t a n (k - 1) ≡ false → Finding s codes stops t a n (getD nexts (k - 1) 0)
-  finding-next {t} {a} {n} {k} f l e =
-      rw (x .next (k - 1) (omega (arith, f .scanning .high)), f .mine l) (finding-at (scanning-next (f .scanning) l e))
+  pub finding-full : probes ≤ i → Vacant slots m slotCount
+  finding-full h = record { turn = i; taken = f .taken; empty = λ b. absurd (omega arith); full = λ b. h }
+
+module _ {s codes : List ℕ} {stops : ℕ} {slots : List ℕ} (x : Indexed s codes stops slots) where
+  -- an empty slot: no stop has the code, since it would have been passed
+  pub finding-empty : {t : List ℕ} {a n m at p i : ℕ} → Finding s codes slots t a n m at i → m ≡ markOf t a n → i < probes → p ≡ placeOf at → getD slots p 0 ≡ 0 →
+      stops ≡ stopNamed s codes stops t a n
+  unfolding stopNamed
+  finding-empty {t} {a} {n} {m} {at} {p} {i} f w h e g =
+      none-named s codes t a n stops stops (λ j l. go j l (hasCode s codes t a n j) refl)
+    where
+      go : (j : ℕ) → j < stops → (b : Bool) → hasCode s codes t a n j ≡ b → hasCode s codes t a n j ≡ false
+      go j l true b =
+          let same : markAt s codes j ≡ m = code-mark s codes t a n j b ∙ sym w in
+          let (k, before, there) = rw same at (x .home j l) i h (sym (along-slot slots (f .along) e) ∙ g) in
+          f .passed k before j (omega (arith, x .few)) there
+      go j l false b = b
+
+  -- the entry of a stop with the code: it is one of the stops, and no other stop has the code
+  pub finding-low : (p : ℕ) → 0 < getD slots p 0 → getD slots p 0 % 256 - 1 < stops
+  finding-low p h = omega (arith, x .known p h)
+
+  pub finding-here : (t : List ℕ) (a n m p : ℕ) → 0 < getD slots p 0 → isEntry s codes (getD slots p 0) m t a n ≡ true →
+      getD slots p 0 % 256 - 1 ≡ stopNamed s codes stops t a n
+  unfolding stopNamed
+  finding-here t a n m p h e =
+      one-named s codes t a n stops stops j (omega (arith, x .known p h)) has (λ i f g. go i f g (hasCode s codes t a n i) refl)
+    where
+      j : ℕ
+      j = getD slots p 0 % 256 - 1
+
+      has : hasCode s codes t a n j ≡ true
+      has = is-entry s codes (getD slots p 0) m t a n e
+
+      go : (i : ℕ) → j < i → i < stops → (b : Bool) → hasCode s codes t a n i ≡ b → hasCode s codes t a n i ≡ false
+      go i f g true b =
+          let z : true ≡ false = sym (has-both s codes t a n j i has b) ∙ x .no-two i g j f in
+          absurd (let y : _≡_ {A = ℕ} 0 1 = cc in omega arith)
+      go i f g false b = b

@@ -1,5 +1,7 @@
 pub mod Lookup
 pub mod LookupLaws
+pub mod Mark
+pub mod MarkLaws
 pub mod Index
 pub mod IndexLaws
 pub mod EnterLaws

@@ -1,12 +1,17 @@
 -- Laws of the lookup: one stop more or fewer, and a code put into the list.
 use Prim.Native.Nat.{ℕ, zero, suc, _+_, _*_, _-_, _≤_, _<_}
-use mathlib.Core.Path.{_≡_, refl, ap, _∙_}
+use mathlib.Core.Path.{_≡_, refl, sym, ap, _∙_}
 use mathlib.Core.List.{List, [], _∷_}
 use mathlib.Core.Bool.{Bool, true, false, cond}
 use native.Mathlib.Omega.{arith}
 use native.Mathlib.Decide.{ℕ-discrete}
 use native.Mathlib.Nat.{add-zero}
 use lib.ListN.{length, getD}
+use lib.Dec.{eqb}
+use borrow.Author.Tests.{eqb-true, eq-eqb}
+use Rattle.loops.specs.Chain.{stays}
+use Rattle.loops.specs.Every.{sameB}
+use Rattle.loops.specs.EveryLaws.{same-at, same-of}
 use Rattle.loops.specs.Put.{putFrom}
 use Rattle.loops.specs.PutLaws.{put-length, put-before, put-at}
 use Rattle.lookup.specs.Lookup.{startOf, lengthOf, hasCode, stopIn, stopNamed, putCode}
@@ -98,3 +103,40 @@ named-none s codes stops t a n h i lt = none-in s codes t a n stops stops (omega
 pub has-kept : (s codes t : List ℕ) (a m j start n i : ℕ) → i < j → hasCode s (putCode codes j start n) t a m i ≡ hasCode s codes t a m i
 unfolding hasCode
 has-kept s codes t a m j start n i h = rw (start-kept codes j start n i h, length-kept codes j start n i h)
+
+-- where no stop has the code, none is named; where one has it and no later stop, that one is
+pub none-named : (s codes t : List ℕ) (a n none k : ℕ) → ((i : ℕ) → i < k → hasCode s codes t a n i ≡ false) → none ≡ stopIn s codes t a n none k
+unfolding stopIn
+none-named s codes t a n none zero h = refl
+none-named s codes t a n none (suc k) h = rw (h k (omega arith)) (none-named s codes t a n none k (λ i l. h i (omega arith)))
+
+pub one-named : (s codes t : List ℕ) (a n none k j : ℕ) → j < k → hasCode s codes t a n j ≡ true → ((i : ℕ) → j < i → i < k → hasCode s codes t a n i ≡ false) →
+    j ≡ stopIn s codes t a n none k
+unfolding stopIn
+one-named s codes t a n none zero j l e h = absurd (omega arith)
+one-named s codes t a n none (suc k) j l e h = go (λ d. one-named s codes t a n none k j d e (λ i f g. h i f (omega arith))) (ℕ-discrete j k)
+  where
+    go : (j < k → j ≡ stopIn s codes t a n none k) → Dec (j ≡ k) → j ≡ cond (hasCode s codes t a n k) k (stopIn s codes t a n none k)
+    go below (yes d) = rw (← d, e)
+    go below (no d) = rw (h k (omega arith) (omega arith)) (below (omega arith))
+
+-- a stop with the code is as long and has the same bytes; two stops with one code have each other's
+pub has-told : (s codes t : List ℕ) (a n j : ℕ) → hasCode s codes t a n j ≡ true → (lengthOf codes j ≡ n) × (sameB s (startOf codes j) t a n ≡ true)
+unfolding hasCode
+has-told s codes t a n j e =
+    let z = stays (eqb (lengthOf codes j) n) e (λ x. let y : _≡_ {A = ℕ} 0 1 = cc in omega arith) in
+    (eqb-true (lengthOf codes j) n (z .0), z .1)
+
+has-made : (s codes t : List ℕ) (a n i : ℕ) → lengthOf codes i ≡ n → sameB s (startOf codes i) t a n ≡ true → hasCode s codes t a n i ≡ true
+unfolding hasCode
+has-made s codes t a n i l e = rw (eq-eqb (lengthOf codes i) n l, e)
+
+pub has-both : (s codes t : List ℕ) (a n i j : ℕ) → hasCode s codes t a n i ≡ true → hasCode s codes t a n j ≡ true →
+    hasCode s codes s (startOf codes j) (lengthOf codes j) i ≡ true
+has-both s codes t a n i j f g =
+    let x = has-told s codes t a n i f in
+    let y = has-told s codes t a n j g in
+    rw (y .0)
+    (has-made s codes s (startOf codes j) n i (x .0)
+    (same-of s (startOf codes i) s (startOf codes j) n
+    (λ k l. same-at s (startOf codes i) t a n (x .1) k l ∙ sym (same-at s (startOf codes j) t a n (y .1) k l))))

@@ -35,29 +35,29 @@ filledFor (whole b) numbers codes = (numbers ≡ b .numbers) × (codes ≡ b .co
 filledFor (bad n p) numbers codes = Unit
 
 -- where the loop may begin
-pub record Readable (s : List ℕ) (a : ℕ) (runs codes heads nexts : List ℕ) : Type 0 where
+pub record Readable (s : List ℕ) (a : ℕ) (runs codes slots : List ℕ) : Type 0 where
   pub short : length s ≤ mostText
   pub within : a ≤ length s
   pub runs-long : runsRoom ≤ length runs
   pub codes-long : codesRoom ≤ length codes
   pub runs-zero : runs ≡ zeros runs
   pub codes-zero : codes ≡ zeros codes
-  pub index : Indexed s codes 0 heads nexts
+  pub index : Indexed s codes 0 slots
 
 -- with o the whole outcome: the loop stands at a, before line `line`
-pub record Reading (s : List ℕ) (o : Outcome) (roomR roomC a line stops runs : ℕ) (numbers codes heads nexts : List ℕ) : Type 0 where
+pub record Reading (s : List ℕ) (o : Outcome) (roomR roomC a line stops runs : ℕ) (numbers codes slots : List ℕ) : Type 0 where
   pub fuel : ℕ
   pub rest : o ≡ readFrom fuel s a (record { line = line; stops = stops; runs = runs; codes = codes; numbers = numbers })
   pub within : a ≤ length s
   pub enough : length s ≤ fuel + a
-  pub index : Indexed s codes stops heads nexts
+  pub index : Indexed s codes stops slots
   pub few : runs ≤ mostRuns
   pub lined : line ≡ stops + runs + 2
   pub runs-same : length numbers ≡ roomR
   pub codes-same : length codes ≡ roomC
 
-pub reading-none : {s : List ℕ} {a : ℕ} {runs codes heads nexts : List ℕ} → Readable s a runs codes heads nexts →
-    Reading s (linesOf s a (length runs) (length codes)) (length runs) (length codes) a 2 0 0 runs codes heads nexts
+pub reading-none : {s : List ℕ} {a : ℕ} {runs codes slots : List ℕ} → Readable s a runs codes slots →
+    Reading s (linesOf s a (length runs) (length codes)) (length runs) (length codes) a 2 0 0 runs codes slots
 unfolding linesOf zeros
 reading-none {s} {a} {runs} {codes} r =
     record {
@@ -106,8 +106,8 @@ any-fuel (suc f) g s a b h l m =
         next-same (readFrom f s) (readFrom (g - 1) s) s (seek lf s a (length s)) b (lineOf s (b .codes) (b .stops) (b .runs) a (seek lf s a (length s)))
         (rec (lt refl))
 
-module _ {s : List ℕ} {o : Outcome} {roomR roomC a line stops runs : ℕ} {numbers codes heads nexts : List ℕ}
-    (r : Reading s o roomR roomC a line stops runs numbers codes heads nexts) (e : ℕ) (at : e ≡ seek lf s a (length s)) where
+module _ {s : List ℕ} {o : Outcome} {roomR roomC a line stops runs : ℕ} {numbers codes slots : List ℕ}
+    (r : Reading s o roomR roomC a line stops runs numbers codes slots) (e : ℕ) (at : e ≡ seek lf s a (length s)) where
   step : o ≡
       cond (leb (length s) e) (bad lineShape line)
       (next (readFrom (r .fuel - 1) s) s e (record { line = line; stops = stops; runs = runs; codes = codes; numbers = numbers }) (lineOf s codes stops runs a e))
@@ -127,10 +127,10 @@ module _ {s : List ℕ} {o : Outcome} {roomR roomC a line stops runs : ℕ} {num
         o ≡ whole (record { line = line; stops = stops; runs = runs; codes = codes; numbers = numbers })
     reading-whole l g = step ∙ rw (lt-leb _ _ h, l, le-ltb _ _ g)
 
-    pub reading-stop : (c : Code) (codes′ heads′ nexts′ : List ℕ) → lineOf s codes stops runs a e ≡ kind.Stop c →
-        codes′ ≡ putCode codes stops (c .start) (c .length) → Indexed s codes′ (stops + 1) heads′ nexts′ →
-        Reading s o roomR roomC (e + 1) (line + 1) (stops + 1) runs numbers codes′ heads′ nexts′
-    reading-stop c codes′ heads′ nexts′ l p x =
+    pub reading-stop : (c : Code) (codes′ slots′ : List ℕ) → lineOf s codes stops runs a e ≡ kind.Stop c →
+        codes′ ≡ putCode codes stops (c .start) (c .length) → Indexed s codes′ (stops + 1) slots′ →
+        Reading s o roomR roomC (e + 1) (line + 1) (stops + 1) runs numbers codes′ slots′
+    reading-stop c codes′ slots′ l p x =
         record {
           fuel = r .fuel - 1;
           rest = rw p (step ∙ rw (lt-leb _ _ h, l));
@@ -144,7 +144,7 @@ module _ {s : List ℕ} {o : Outcome} {roomR roomC a line stops runs : ℕ} {num
         }
 
     pub reading-run : (k : Run) (numbers′ : List ℕ) → lineOf s codes stops runs a e ≡ kind.Run k → numbers′ ≡ putRun numbers runs k →
-        Reading s o roomR roomC (e + 1) (line + 1) stops (runs + 1) numbers′ codes heads nexts
+        Reading s o roomR roomC (e + 1) (line + 1) stops (runs + 1) numbers′ codes slots
     unfolding putRun
     reading-run k numbers′ l p =
         record {

@@ -49,10 +49,9 @@ fn read_lines(
     from: usize,
     runs: &mut [u32],
     codes: &mut [u32],
-    heads: &mut [u16],
-    nexts: &mut [u16],
+    slots: &mut [u64],
 ) -> ReadAnswer
-    requires { ⌜ Readable (now text) from (now runs) (now codes) (now heads) (now nexts) ⌝ }
+    requires { ⌜ Readable (now text) from (now runs) (now codes) (now slots) ⌝ }
     ensures { λ r. ⌜ r ≡ answerOf (linesOf (now (text .entry)) from (length (now (runs .entry))) (length (now (codes .entry)))) ⌝ }
     ensures { λ r. ⌜ filledFor (linesOf (now (text .entry)) from (length (now (runs .entry))) (length (now (codes .entry)))) (now (runs .exit)) (now (codes .exit)) ⌝ }
 {
@@ -65,14 +64,13 @@ fn read_lines(
         if text.len() <= end {
             return refuse(Refusal::LINE_SHAPE, line);
         }
-        let l = lines::line_at(text, codes, heads, nexts, stops, count, at, end);
+        let l = lines::line_at(text, codes, slots, stops, count, at, end);
         match l {
             Line::Stop(code) => {
                 lookup::enter(
                     text,
                     codes,
-                    heads,
-                    nexts,
+                    slots,
                     stops,
                     code.start as usize,
                     code.length as usize,
@@ -117,9 +115,8 @@ fn read_text(text: &[u8], runs: &mut [u32], codes: &mut [u32]) -> ReadAnswer
     }
     let first = b"timetable 1\n";
     if words::begins(text, 0, text.len(), first) {
-        let mut heads = [0u16; lookup::BUCKETS];
-        let mut nexts = [0u16; Stop::MOST];
-        return read_lines(text, first.len(), runs, codes, &mut heads, &mut nexts);
+        let mut slots = [0u64; lookup::SLOTS];
+        return read_lines(text, first.len(), runs, codes, &mut slots);
     }
     refuse(Refusal::FIRST_LINE, 1)
 }

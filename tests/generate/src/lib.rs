@@ -5,6 +5,7 @@
 //!
 //! * [`days`]: timetable numbers, from tiny and tie-heavy to the limits;
 //! * [`texts`]: timetable texts, good and damaged;
+//! * [`slots`]: codes made against the library's index;
 //! * [`tables`]: tables files, good but hostile, and damaged;
 //! * [`asks`]: what to ask, with numbers at and past every edge;
 //! * [`programs`]: inputs of the program "journey";
@@ -15,6 +16,7 @@ pub mod asks;
 pub mod days;
 pub mod example;
 pub mod programs;
+pub mod slots;
 pub mod tables;
 pub mod texts;
 pub mod vectors;

@@ -53,27 +53,6 @@ pub fn codes(rng: &mut Rng, count: u32) -> Vec<Vec<u8>> {
     all
 }
 
-/// 255 codes of 64 bytes that differ in their last bytes only and have one weight,
-/// the sum of each byte by the square of its place plus 5, modulo 1,021: the
-/// library's lookup puts them all into one bucket.
-pub fn codes_of_one_bucket() -> Vec<Vec<u8>> {
-    let weight = |code: &[u8]| {
-        let parts = code.iter().enumerate().map(|(k, b)| (k as u32 + 5).pow(2) * u32::from(*b));
-        parts.sum::<u32>() % 1_021
-    };
-    let mut all: Vec<Vec<u8>> = Vec::new();
-    for number in 0..94u32.pow(3) {
-        let mut code = vec![b'Q'; 64];
-        for (place, by) in [(61, 94 * 94), (62, 94), (63, 1)] {
-            code[place] = 33 + (number / by % 94) as u8;
-        }
-        if all.len() < 255 && weight(&code) == 0 {
-            all.push(code);
-        }
-    }
-    all
-}
-
 /// The text of a day; a stop number without a code is written as its number.
 pub fn text(day: &Day, codes: &[Vec<u8>]) -> Vec<u8> {
     let mut text = b"timetable 1\n".to_vec();

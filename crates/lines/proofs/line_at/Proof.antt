@@ -24,7 +24,7 @@ add-run-line c = search needs
 
 run-line-requires : tie.Need-run-line-requires
 run-line-requires c κs =
-    let z = c .before .before .before .before .before .before .before in
+    let z = c .before .before .before .before .before .before in
     let l = begins-long _ _ _ _ (sym (c .before .begins .ensures) ∙ c .if1 .taken) in
     (z .pre .0, record { low = omega (arith, z .pre .1 .low); high = z .pre .1 .high; short = z .pre .1 .short })
 
@@ -43,7 +43,7 @@ add-stop-line c = search needs
 
 stop-line-requires : tie.Need-stop-line-requires
 stop-line-requires c κs =
-    let z = c .before .before .before .before .before .before .before .before .before .before in
+    let z = c .before .before .before .before .before .before .before .before .before in
     let l = begins-long _ _ _ _ (sym (c .before .begins2 .ensures) ∙ c .if2 .taken) in
     (z .pre .0, record { low = omega (arith, z .pre .1 .low); high = z .pre .1 .high; short = z .pre .1 .short })
 

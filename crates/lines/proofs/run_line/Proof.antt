@@ -25,7 +25,7 @@ enum-known-shape-2 c = search needs
 
 run-fields-requires : tie.Need-run-fields-requires
 run-fields-requires c κs =
-    let z = c .before .before .before .before .before .before .before .before .before in
+    let z = c .before .before .before .before .before .before .before .before in
     let e = sym (c .before .before .before .fields-at .ensures) ∙ c .before .shape2 .given .1 in
     (z .pre .0, fields-within _ _ _ _ e (z .pre .1 .low) (z .pre .1 .high))
 

@@ -38,11 +38,11 @@ returns-4 c =
     let f₂ = f₃ .before .before in
     simp (le-ltb _ _ (f₂ .before .before .if1 .left), ← f₂ .before .is-code .ensures, f₂ .if2 .left, ← f₃ .before .find .ensures, le-ltb _ _ (f₃ .if3 .left), le-leb _ _ (c .if4 .taken))
 
+cast-t13 : tie.Need-cast-t13
+cast-t13 c = search needs
+
 cast-t14 : tie.Need-cast-t14
 cast-t14 c = search needs
-
-cast-t15 : tie.Need-cast-t15
-cast-t15 c = search needs
 
 returns-5 : tie.Need-returns-5
 unfolding stopLine
@@ -62,6 +62,6 @@ stop-line-spec =
     find-requires
     returns-3
     returns-4
+    cast-t13
     cast-t14
-    cast-t15
     returns-5)

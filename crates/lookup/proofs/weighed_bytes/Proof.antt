@@ -1,6 +1,6 @@
 use borrow.Author.Needs.{needs}
 use borrow.Author.Tests.{lt-ltb, le-ltb}
-use Rattle.lookup.specs.Index.{weighedBytes}
+use Rattle.lookup.specs.Mark.{weighedBytes}
 use Rattle.lookup.proofs.weighed_bytes.Statement.{statement}
 use Rattle.lookup.proofs.weighed_bytes.Tie as tie
 use Rattle.lookup.proofs.weighed_bytes.Reads as reads

@@ -6,6 +6,7 @@ use Rattle.lookup.specs.EnterLaws.{entered-none}
 use Rattle.reader.specs.Text.{readText}
 use Rattle.reader.specs.Reading.{linesOf}
 use borrow.Author.Needs.{needs}
+use borrow.Author.Needs.{needs}
 use Rattle.reader.proofs.read_text.Statement.{statement}
 use Rattle.reader.proofs.read_text.Tie as tie
 use Rattle.reader.proofs.read_text.Reads as reads
@@ -44,12 +45,9 @@ begins-requires c κs = search needs
 slice-aggregate-read-lines : tie.Need-slice-aggregate-read-lines
 slice-aggregate-read-lines c = search needs
 
-slice-aggregate-read-lines-2 : tie.Need-slice-aggregate-read-lines-2
-slice-aggregate-read-lines-2 c = search needs
-
 read-lines-requires : tie.Need-read-lines-requires
 read-lines-requires c κs =
-    let f₄ = c .before .before .before .before in
+    let f₄ = c .before .before .before in
     let f₃ = f₄ .before .before .before .before in
     let f₂ = f₃ .before in
     let f₁ = f₂ .before in
@@ -74,8 +72,8 @@ same-length-2 c = search needs
 returns-4 : tie.Need-returns-4
 unfolding readText linesOf
 returns-4 c =
-    let m = c .before .before .before .before .before .before in
-    let f₄ = m .before .before .before .before .before in
+    let m = c .before .before .before .before .before in
+    let f₄ = m .before .before .before .before in
     let f₃ = f₄ .before .before .before .before in
     let f₂ = f₃ .before in
     let f₁ = f₂ .before in
@@ -105,7 +103,6 @@ read-text-spec =
     returns-3
     begins-requires
     slice-aggregate-read-lines
-    slice-aggregate-read-lines-2
     read-lines-requires
     same-length
     same-length-2
