@@ -1,9 +1,8 @@
 -- What is known of a file that was read; the names under which a file is written before it gets its own; when it is whole.
-use Prim.Native.Nat.{ℕ, _-_, _/_, _%_, _≤_, _<_}
+use Prim.Native.Nat.{ℕ, _/_, _%_, _≤_, _<_}
 use mathlib.Core.List.{List, [], _∷_, _++_}
-use mathlib.Core.Bool.{Bool, true, false, cond}
+use mathlib.Core.Bool.{Bool, false, cond}
 use lib.Dec.{eqb, leb}
-use lib.IntN.{ℤ}
 use Rattle.printed.specs.Printed.{digit}
 use Rattle.report.specs.Texts.{bytes}
 use Rattle.files.specs.declared.FileRead.{FileRead}

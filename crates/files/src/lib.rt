@@ -6,7 +6,7 @@ use libc::STDOUT_FILENO;
 use printed::put_part;
 ghost use Prim.Native.Nat.{_+_, _≤_, _<_};
 ghost use mathlib.Core.Path.{_≡_};
-ghost use mathlib.Core.Bool.{true, false};
+ghost use mathlib.Core.Bool.{false};
 ghost use lib.Dec.{eqb};
 ghost use lib.ListN.{length};
 ghost use Rattle.io.specs.Counts.{Counts};
@@ -26,7 +26,7 @@ enum Part {
     No,
 }
 
-// As many first names a file has.
+// So many first names a file can have.
 const PARTS: u8 = 100;
 
 // The longest name that a file to be written may have: ".part", two digits and a zero byte follow it.

@@ -5,10 +5,27 @@ use files::FileRead;
 use kinds::Text;
 use libc::STDOUT_FILENO;
 
+// Whether a file's name is that of the timetable, letter by letter: the tables would take its place.
+fn is_timetable(path: &[u8]) -> bool {
+    let mut text = io::buffer();
+    let n = os::arg(1, &mut text);
+    if n != path.len() {
+        return false;
+    }
+    words::same(path, 0, &text, 0, n)
+}
+
 // The tables, as the file that the second word names.
 fn save(tables: &[u8]) -> bool {
     let mut path = io::buffer();
     let n = os::arg(2, &mut path);
+    if is_timetable(&path[..n]) {
+        io::write_all(
+            STDOUT_FILENO,
+            b"cannot make the tables: their name is the timetable's\n",
+        );
+        return false;
+    }
     files::write(&path[..n], tables)
 }
 

@@ -270,6 +270,8 @@ fn files_that_cannot_be_written() {
     let name = "x".repeat(4_089);
     build(&["day", &name], &format!("cannot make {name}: the name is empty or too long\n"));
     build(&["day", ""], "cannot make : the name is empty or too long\n");
+    build(&["day", "day"], "cannot make the tables: their name is the timetable's\n");
+    assert_eq!(folder.get("day").unwrap(), example::T);
     // The system takes no byte of the file: it is full, as it were.
     let full = folder.shell("trap '' XFSZ; ulimit -f 0; exec $bin/tables_build day old");
     same(&full.stdout, b"cannot write old\n");
