@@ -1,6 +1,6 @@
 -- What a refusal of the check says of its places: 11 names a label of tables that are not good, 19 one of good tables, 20 a run of the timetable and a stop.
 use Prim.Native.Nat.{ℕ, _+_, _*_, _<_}
-use mathlib.Core.Path.{_≡_, refl, sym, ap, ap₂, subst, _∙_}
+use mathlib.Core.Path.{_≡_, refl, ap, ap₂, subst, _∙_}
 use mathlib.Core.List.{List}
 use mathlib.Core.Bool.{Bool, true, false, cond}
 use mathlib.Core.Option.{Option, none, some}
@@ -10,16 +10,15 @@ use lib.ListN.{length, getD}
 use lib.Dec.{eqb, leb, ltb}
 use Rattle.loops.specs.FirstOf.{firstOf}
 use Rattle.loops.specs.FirstOfLaws.{first-of-found}
-use Rattle.kinds.specs.Limits.{mostStops, runNumbers, runsRoom, noPivot, lastMinute, mostTrip, mostLabels}
+use Rattle.kinds.specs.Limits.{runNumbers, lastMinute, mostTrip, mostLabels}
 use Rattle.kinds.specs.Refusals.{refusal, labelBad, unsupported, gap, stopsDiffer}
 use Rattle.kinds.specs.Kinds.{isStopCount, isRunCount, runOf}
-use Rattle.kinds.specs.KindsLaws.{GoodRun}
 use Rattle.kinds.specs.declared.Refusal.{Refusal}
 use Rattle.kinds.specs.declared.RunRead.{RunRead}
 use Rattle.kinds.specs.declared.RunRead.the-variants as run
-use Rattle.journeys.specs.Service.{Service, RideAt}
+use Rattle.journeys.specs.Service.{Service}
 use Rattle.journeys.specs.Tables.{outs, ins, Tables, LabelAt, of-out, of-in}
-use Rattle.journeys.specs.Check.{SupportedAt, NoGapAt, UnsupportedFirst, GapFirst}
+use Rattle.journeys.specs.Check.{UnsupportedFirst, GapFirst}
 use Rattle.tables.specs.Format.{formatMark, headerBytes, entryBytes}
 use Rattle.tables.specs.File.{stopsOf, labelsOf, placeOf, tablesOf}
 use Rattle.tables.specs.Judged as tables-judged
@@ -35,11 +34,10 @@ use Rattle.timetable.specs.Numbers.{runAt, serviceOf, readRun, refusedBy, refus
 use Rattle.timetable.specs.NumbersLaws.{service-slots}
 use Rattle.timetable.specs.declared.Judged.{Judged}
 use Rattle.timetable.specs.declared.Judged.the-variants as numbers
-use Rattle.verdict.specs.declared.Verdict.{Verdict}
-use Rattle.verdict.specs.declared.Verdict.the-variants.{Accepted, No}
+use Rattle.verdict.specs.declared.Verdict.the-variants.{No}
 use Rattle.ground.specs.Ground.{groundRoom, judgedBoth}
 use Rattle.verdict.specs.Verdict.{Outcome, unsupported-at, gap-at, all-well, Answered, Checked}
-use Rattle.ground.specs.GroundLaws.{BothGood, both-good}
+use Rattle.ground.specs.GroundLaws.{both-good}
 
 -- ---- what is refused before tables and timetable are compared is neither 19 nor 20
 

@@ -2,7 +2,7 @@
 use Prim.Native.Nat.{ℕ, _+_, _*_, _≤_, _<_}
 use mathlib.Core.Path.{_≡_, refl, sym, _∙_}
 use mathlib.Core.List.{List}
-use mathlib.Core.Bool.{Bool, true, false, cond}
+use mathlib.Core.Bool.{Bool, true, false}
 use native.Mathlib.Omega.{arith}
 use lib.ListN.{length, getD}
 use lib.Dec.{eqb, leb}
@@ -12,7 +12,7 @@ use Rattle.kinds.specs.Limits.{mostLabels, mostText, runsRoom, codesRoom}
 use Rattle.kinds.specs.Refusals.{refusal, noTables, tablesLength, overLimit}
 use Rattle.kinds.specs.Kinds.{isStopCount}
 use Rattle.kinds.specs.KindsLaws.{stop-count}
-use Rattle.reader.specs.Text.{Outcome, bad, readText}
+use Rattle.reader.specs.Text.{bad, readText}
 use Rattle.tables.specs.Format.{formatMark, headerBytes, entryBytes}
 use Rattle.tables.specs.File.{stopsOf, labelsOf, placeOf, fileRoom}
 use Rattle.tables.specs.Judged.{judgedContents, judgedTables}

@@ -1,5 +1,5 @@
 -- Laws of what is spelled out: where the labels of a stop begin and end, that a number names one label, and that what a refusal names can be spelled out.
-use Prim.Native.Nat.{ℕ, suc, _+_, _*_, _≤_, _<_}
+use Prim.Native.Nat.{ℕ, _+_, _*_, _≤_, _<_}
 use mathlib.Core.Path.{_≡_, refl, sym, ap, subst, _∙_}
 use mathlib.Core.List.{List, _++_, append-nil}
 use mathlib.Core.Option.{Option, some}
@@ -11,11 +11,11 @@ use borrow.Author.Tests.{lt-ltb, le-ltb}
 use Rattle.kinds.specs.Limits.{noPivot, runsRoom}
 use Rattle.kinds.specs.Refusals.{labelBad, unsupported, gap}
 use Rattle.kinds.specs.declared.Refusal.{Refusal}
-use Rattle.journeys.specs.Tables.{Side, outs, ins, Tables, Entry, LabelAt, of-out, of-in}
-use Rattle.tables.specs.File.{stopsOf, startOf, labelsOf, labelAt, pivotOf, tablesOf}
+use Rattle.journeys.specs.Tables.{outs, ins, Tables, Entry, LabelAt, of-out, of-in}
+use Rattle.tables.specs.File.{startOf, labelsOf, labelAt, pivotOf, tablesOf}
 use Rattle.tables.specs.FileLaws.{start-none, start-more}
 use Rattle.tables.specs.Good.{Room, GoodFile}
-use Rattle.tables.specs.TablesLaws.{pivot-none, pivot-some, good-stops, room-entry, entry-only, entry-one, good-tables}
+use Rattle.tables.specs.TablesLaws.{pivot-none, pivot-some, good-stops, room-entry, entry-only, good-tables}
 use Rattle.timetable.specs.Numbers.{runAt, GoodRunAt}
 use Rattle.reader.specs.TextLaws.{GoodRead}
 use Rattle.answers.specs.AnswersLaws.{Named, named-all}
@@ -62,14 +62,14 @@ pub record SameLabel (u v d a : ℕ) (p : Option ℕ) (u′ v′ d′ a′ : ℕ
 no-side : outs ≡ ins → ⊥
 no-side e = let z : _≡_ {A = ℕ} 0 1 = cc in omega arith
 
-module _ {b : List ℕ} {n : ℕ} (g : GoodFile b n) {k u v d a u′ v′ d′ a′ : ℕ} {p p′ : Option ℕ} where
+module _ (b : List ℕ) {k u v d a u′ v′ d′ a′ : ℕ} {p p′ : Option ℕ} where
   pub label-one : LabelAt (tablesOf b) k u v d a p → LabelAt (tablesOf b) k u′ v′ d′ a′ p′ → SameLabel u v d a p u′ v′ d′ a′ p′
   label-one (of-out x) (of-out y) =
-      record { from = entry-one g x y .1; to = sym (x .hub) ∙ y .hub; dep = sym (x .dep) ∙ y .dep; arr = sym (x .arr) ∙ y .arr; pivot = sym (x .pivot) ∙ y .pivot }
+      record { from = entry-only b x y .1; to = sym (x .hub) ∙ y .hub; dep = sym (x .dep) ∙ y .dep; arr = sym (x .arr) ∙ y .arr; pivot = sym (x .pivot) ∙ y .pivot }
   label-one (of-in x) (of-in y) =
-      record { from = sym (x .hub) ∙ y .hub; to = entry-one g x y .1; dep = sym (x .dep) ∙ y .dep; arr = sym (x .arr) ∙ y .arr; pivot = sym (x .pivot) ∙ y .pivot }
-  label-one (of-out x) (of-in y) = absurd (no-side (entry-one g x y .0))
-  label-one (of-in x) (of-out y) = absurd (no-side (sym (entry-one g x y .0)))
+      record { from = sym (x .hub) ∙ y .hub; to = entry-only b x y .1; dep = sym (x .dep) ∙ y .dep; arr = sym (x .arr) ∙ y .arr; pivot = sym (x .pivot) ∙ y .pivot }
+  label-one (of-out x) (of-in y) = absurd (no-side (entry-only b x y .0))
+  label-one (of-in x) (of-out y) = absurd (no-side (sym (entry-only b x y .0)))
 
 -- and the label that is not good
 side-one : (x y : Bool) → sideOf x ≡ sideOf y → x ≡ y

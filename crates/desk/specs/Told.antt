@@ -6,7 +6,7 @@ use lib.ListN.{replicate}
 use Rattle.kinds.specs.Limits.{runsRoom, codesRoom}
 use Rattle.kinds.specs.Refusals.{refusal}
 use Rattle.kinds.specs.declared.Refusal.{Refusal}
-use Rattle.reader.specs.Text.{Sofar, Outcome, whole, bad, readText}
+use Rattle.reader.specs.Text.{Sofar, whole, bad, readText}
 use Rattle.reader.specs.declared.Counts.{Counts}
 use Rattle.tables.specs.File.{tablesOf}
 use Rattle.tables.specs.Judged.{judgedTables}

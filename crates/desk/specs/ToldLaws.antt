@@ -1,6 +1,6 @@
 -- Laws of what is told: what the reader left, why the check refuses, and that nothing else can be told.
 use Prim.Native.Nat.{ℕ, _≤_}
-use mathlib.Core.Path.{_≡_, refl, sym, ap, subst, _∙_}
+use mathlib.Core.Path.{_≡_, refl, ap, subst, _∙_}
 use mathlib.Core.List.{List, _++_}
 use native.Mathlib.Omega.{arith}
 use lib.ListN.{length}
@@ -15,7 +15,6 @@ use Rattle.reader.specs.declared.ReadAnswer.the-variants as read
 use Rattle.reader.specs.Text.{Sofar, Outcome, whole, bad, readText, answerOf, runsOf, codesOf}
 use Rattle.reader.specs.TextLaws.{GoodRead, text-good}
 use Rattle.tables.specs.File.{tablesOf, placeOf}
-use Rattle.tables.specs.Judged.{judgedTables}
 use Rattle.verdict.specs.declared.Verdict.{Verdict}
 use Rattle.verdict.specs.declared.Verdict.the-variants as verdict
 use Rattle.verdict.specs.Verdict.{Checked}
@@ -30,7 +29,7 @@ use Rattle.desk.specs.Spelled.{Spelled}
 use Rattle.desk.specs.CheckLaws.{checked-places}
 use Rattle.desk.specs.SpelledLaws.{Spellable, spellable}
 use Rattle.desk.specs.Told as told
-use Rattle.desk.specs.Told.{Refused, by-text, by-check, Accepts, AdmitOf, admits, refuses, CheckTold}
+use Rattle.desk.specs.Told.{Refused, by-check, Accepts, AdmitOf, admits, refuses, CheckTold}
 use Rattle.desk.specs.declared.Admitted.{Admitted}
 use Rattle.desk.specs.declared.Admitted.the-variants as answer
 

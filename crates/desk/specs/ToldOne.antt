@@ -1,16 +1,12 @@
 -- Nothing else can be told: two results of one call are the same.
 use Prim.Native.Nat.{ℕ}
-use mathlib.Core.Path.{_≡_, refl, sym, ap, ap₂, subst, _∙_}
+use mathlib.Core.Path.{_≡_, sym, ap, ap₂, subst, _∙_}
 use mathlib.Core.List.{List, _++_}
 use native.Mathlib.Omega.{arith}
-use Rattle.kinds.specs.Limits.{runsRoom, codesRoom}
-use Rattle.kinds.specs.Refusals.{refusal, unsupported, gap}
 use Rattle.kinds.specs.declared.Refusal.{Refusal}
-use Rattle.reader.specs.Text.{Sofar, Outcome, whole, bad, readText}
+use Rattle.reader.specs.Text.{Sofar, Outcome, whole, bad}
 use Rattle.reader.specs.declared.Counts.{Counts}
 use Rattle.tables.specs.File.{tablesOf}
-use Rattle.tables.specs.Judged.{judgedTables}
-use Rattle.tables.specs.Good.{GoodFile}
 use Rattle.tables.specs.OneFile.{AreBytes}
 use Rattle.verdict.specs.declared.Verdict.{Verdict}
 use Rattle.verdict.specs.declared.Verdict.the-variants as verdict
@@ -24,9 +20,8 @@ use Rattle.printed.specs.Wrote.{Wrote}
 use Rattle.printed.specs.WroteLaws.{wrote-one}
 use Rattle.report.specs.Words.{refusalLine}
 use Rattle.desk.specs.Spelled.{LabelSpelled, Spelled, a-bad, a-label, a-gap, nothing}
-use Rattle.desk.specs.CheckLaws.{checked-places}
 use Rattle.desk.specs.SpelledLaws.{label-one, bad-spelled-one}
-use Rattle.desk.specs.Told.{before, Refused, by-text, by-check, Accepts, AdmitOf, admits, refuses, CheckTold, accepted, refused, BuildTold, bad-text, bad-build, built}
+use Rattle.desk.specs.Told.{Refused, by-text, by-check, Accepts, AdmitOf, admits, refuses, CheckTold, accepted, refused, BuildTold, bad-text, bad-build, built}
 use Rattle.desk.specs.declared.Admitted.{Admitted}
 use Rattle.desk.specs.declared.Admitted.the-variants as answer
 use Rattle.desk.specs.declared.Made.{Made}
@@ -34,30 +29,30 @@ use Rattle.desk.specs.declared.Made.the-variants as made
 
 -- ---- what is spelled out
 
-module _ {b : List ℕ} {n : ℕ} {s codes : List ℕ} where
-  label-spelled-one : GoodFile b n → {k : ℕ} {xs ys : List ℕ} → LabelSpelled (tablesOf b) s codes k xs → LabelSpelled (tablesOf b) s codes k ys → xs ≡ ys
-  label-spelled-one g x y =
-      let z = label-one g (x .label) (y .label) in
+module _ {b s codes : List ℕ} where
+  label-spelled-one : {k : ℕ} {xs ys : List ℕ} → LabelSpelled (tablesOf b) s codes k xs → LabelSpelled (tablesOf b) s codes k ys → xs ≡ ys
+  label-spelled-one x y =
+      let z = label-one b (x .label) (y .label) in
       x .is ∙ rw (z .from, z .to, z .dep, z .arr, z .pivot) (sym (y .is))
 
-  spelled-one : {runs : List ℕ} {stops : ℕ} {r : Refusal} {xs ys : List ℕ} → (r .number ≡ unsupported → GoodFile b n) → Spelled (tablesOf b) s codes runs stops r xs →
+  spelled-one : {runs : List ℕ} {stops : ℕ} {r : Refusal} {xs ys : List ℕ} → Spelled (tablesOf b) s codes runs stops r xs →
       Spelled (tablesOf b) s codes runs stops r ys → xs ≡ ys
-  spelled-one g (a-bad e x) (a-bad f y) = bad-spelled-one b x y
-  spelled-one g (a-bad e x) (a-label f y) = absurd (omega arith)
-  spelled-one g (a-bad e x) (a-gap f y) = absurd (omega arith)
-  spelled-one g (a-bad e x) (nothing l n m y) = absurd (l e)
-  spelled-one g (a-label e x) (a-bad f y) = absurd (omega arith)
-  spelled-one g (a-label e x) (a-label f y) = label-spelled-one (g e) x y
-  spelled-one g (a-label e x) (a-gap f y) = absurd (omega arith)
-  spelled-one g (a-label e x) (nothing l n m y) = absurd (n e)
-  spelled-one g (a-gap e x) (a-bad f y) = absurd (omega arith)
-  spelled-one g (a-gap e x) (a-label f y) = absurd (omega arith)
-  spelled-one g (a-gap e x) (a-gap f y) = x ∙ sym y
-  spelled-one g (a-gap e x) (nothing l n m y) = absurd (m e)
-  spelled-one g (nothing l n m x) (a-bad f y) = absurd (l f)
-  spelled-one g (nothing l n m x) (a-label f y) = absurd (n f)
-  spelled-one g (nothing l n m x) (a-gap f y) = absurd (m f)
-  spelled-one g (nothing l n m x) (nothing h o p y) = x ∙ sym y
+  spelled-one (a-bad e x) (a-bad f y) = bad-spelled-one b x y
+  spelled-one (a-bad e x) (a-label f y) = absurd (omega arith)
+  spelled-one (a-bad e x) (a-gap f y) = absurd (omega arith)
+  spelled-one (a-bad e x) (nothing l n m y) = absurd (l e)
+  spelled-one (a-label e x) (a-bad f y) = absurd (omega arith)
+  spelled-one (a-label e x) (a-label f y) = label-spelled-one x y
+  spelled-one (a-label e x) (a-gap f y) = absurd (omega arith)
+  spelled-one (a-label e x) (nothing l n m y) = absurd (n e)
+  spelled-one (a-gap e x) (a-bad f y) = absurd (omega arith)
+  spelled-one (a-gap e x) (a-label f y) = absurd (omega arith)
+  spelled-one (a-gap e x) (a-gap f y) = x ∙ sym y
+  spelled-one (a-gap e x) (nothing l n m y) = absurd (m e)
+  spelled-one (nothing l n m x) (a-bad f y) = absurd (l f)
+  spelled-one (nothing l n m x) (a-label f y) = absurd (n f)
+  spelled-one (nothing l n m x) (a-gap f y) = absurd (m f)
+  spelled-one (nothing l n m x) (nothing h o p y) = x ∙ sym y
 
 -- ---- the check
 
@@ -94,8 +89,7 @@ module _ {s b : List ℕ} {roomR roomC lent : ℕ} where
           let t₂ : Spelled (tablesOf b) s (v .codes) (v .numbers) (v .stops) r xs = subst (λ (i : Sofar). Spelled (tablesOf b) s (i .codes) (i .numbers) (i .stops) r xs) h t in
           let k : r ≡ q = same-refusal (checked-one b (v .stops) (v .runs) (v .numbers) lent c₂ d) in
           let u₂ : Spelled (tablesOf b) s (v .codes) (v .numbers) (v .stops) r ys = subst (λ (i : Refusal). Spelled (tablesOf b) s (v .codes) (v .numbers) (v .stops) i ys) (sym k) u in
-          let g = checked-places b (v .stops) (v .runs) (v .numbers) lent r c₂ in
-          rw (k, spelled-one (g .file) t₂ u₂)
+          rw (k, spelled-one t₂ u₂)
 
   -- tables are not both accepted and refused
   accepts-refused : {k : Counts} {xs : List ℕ} → Accepts s b roomR roomC lent k → Refused s b roomR roomC lent xs → ⊥

@@ -1,6 +1,5 @@
 -- What the definitions come to: some lines written out.
 use mathlib.Core.Path.{_≡_, refl}
-use mathlib.Core.List.{List, []}
 use mathlib.Core.Bool.{true, false}
 use Rattle.kinds.specs.Refusals.{refusal, stopUnknown, overLimit, unsupported, gap}
 use Rattle.kinds.specs.declared.Code.{Code}

@@ -106,15 +106,6 @@ module _ {b : List ℕ} {n : ℕ} (g : GoodFile b n) where
   unfolding tablesOf
   tables-within side s lt = set-within (g .room .contents) (set-below side s n lt)
 
-  pub entry-read : (side : Side) (s k : ℕ) → s < n → tablesOf b .start side s ≤ k → k < tablesOf b .end side s →
-      Entry (tablesOf b) side k s (labelAt b k .hub) (labelAt b k .dep) (labelAt b k .arr) (pivotOf (labelAt b k .pivot))
-  entry-read side s k lt low high = room-entry (g .room) side s k lt low high
-
-  -- an entry is one of one set only
-  pub entry-one : {side side′ : Side} {k s h d a s′ h′ d′ a′ : ℕ} {p p′ : Option ℕ} → Entry (tablesOf b) side k s h d a p → Entry (tablesOf b) side′ k s′ h′ d′ a′ p′ →
-      (side ≡ side′) × (s ≡ s′)
-  entry-one x y = entry-only b x y
-
   -- labels of one set rise
   pub rises : (set i k : ℕ) → set < 2 * n → i < k → k < countOf b set → After (labelAt b (startOf b set + i)) (labelAt b (startOf b set + k))
   rises set i zero lt l m = absurd (omega arith)

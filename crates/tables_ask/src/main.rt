@@ -13,7 +13,7 @@ use output::Sizes;
 use output::Stage;
 use output::Turn;
 ghost use mathlib.Core.Path.{_≡_};
-ghost use Prim.Native.Nat.{ℕ, _+_, _≤_};
+ghost use Prim.Native.Nat.{_+_, _≤_};
 ghost use lib.ListN.{length, take, replicate};
 ghost use Rattle.kinds.specs.Limits.{mostText, mostInput, lastMinute};
 ghost use Rattle.files.specs.Files.{ReadWithin};

@@ -1,6 +1,4 @@
-use mathlib.Core.Path.{refl, sym, ap, subst, _∙_}
-use mathlib.Core.List.{List}
-use Prim.Native.Nat.{ℕ}
+use mathlib.Core.Path.{refl, sym, _∙_}
 use native.Mathlib.Omega.{arith}
 use Rattle.loops.specs.Zero.{zeros}
 use Rattle.desk.specs.Told.{bad-text, bad-build, built}

@@ -1,7 +1,4 @@
-use borrow.Author.Needs.{needs}
-use mathlib.Core.Path.{ap}
 use mathlib.Core.Logic.{⊎-elim}
-use native.Mathlib.Omega.{arith}
 use Rattle.tables.specs.TablesLaws.{pivot-none, pivot-some}
 use Rattle.desk.proofs.change_of.Statement.{statement}
 use Rattle.desk.proofs.change_of.Tie as tie

@@ -1,6 +1,4 @@
-use mathlib.Core.Path.{sym, subst}
 use native.Mathlib.Omega.{arith}
-use Rattle.printed.specs.Wrote.{Wrote}
 use Rattle.report.specs.Lines.{acceptedLine}
 use Rattle.desk.specs.ToldLaws.{told-refused, told-accepted}
 use borrow.Author.Needs.{needs}

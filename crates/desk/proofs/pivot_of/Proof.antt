@@ -1,4 +1,3 @@
-use borrow.Author.Needs.{needs}
 use Rattle.tables.specs.TablesLaws.{pivot-none, pivot-some}
 use Rattle.desk.proofs.pivot_of.Statement.{statement}
 use Rattle.desk.proofs.pivot_of.Tie as tie

@@ -1,6 +1,5 @@
-use mathlib.Core.Path.{refl, ap, sym, subst}
+use mathlib.Core.Path.{refl}
 use mathlib.Core.Logic.{⊎-elim, inl, inr}
-use native.Mathlib.Omega.{arith}
 use Rattle.tables.specs.File.{labelAt}
 use Rattle.desk.specs.SpelledLaws.{label-from, label-to, label-pivot, change-in}
 use borrow.Author.Needs.{needs}

@@ -1,4 +1,3 @@
-use borrow.Author.Needs.{needs}
 use borrow.Author.Tests.{eq-eqb, ne-eqb}
 use Rattle.files.proofs.is_name.Statement.{statement}
 use Rattle.files.proofs.is_name.Tie as tie

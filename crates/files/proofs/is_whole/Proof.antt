@@ -1,4 +1,3 @@
-use borrow.Author.Needs.{needs}
 use borrow.Author.Tests.{not-true, not-false}
 use Rattle.files.proofs.is_whole.Statement.{statement}
 use Rattle.files.proofs.is_whole.Tie as tie
