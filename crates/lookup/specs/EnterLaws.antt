@@ -3,15 +3,14 @@ use Prim.Native.Nat.{ℕ, zero, suc, _+_, _*_, _%_, _≤_, _<_}
 use mathlib.Core.Path.{_≡_, refl, sym, _∙_}
 use mathlib.Core.List.{List}
 use mathlib.Core.Logic.{_⊎_, inl, inr}
-use mathlib.Core.Bool.{Bool, true, false}
+use mathlib.Core.Bool.{false}
 use native.Mathlib.Omega.{arith}
 use native.Mathlib.Decide.{ℕ-discrete, decLt}
 use lib.ListN.{length, getD, set, replicate, length-set, length-replicate, getD-replicate, List·getD-eq-default}
 use lib.Seq.{getD-set-same, getD-set-other}
-use Rattle.kinds.specs.Limits.{mostStops}
 use Rattle.lookup.specs.Lookup.{startOf, lengthOf, hasCode, stopNamed, putCode}
-use Rattle.lookup.specs.LookupLaws.{Placed, start-put, length-put, start-kept, length-kept, placed-more, has-kept, none-named}
-use Rattle.lookup.specs.Mark.{marksBelow, markOf}
+use Rattle.lookup.specs.LookupLaws.{start-put, length-put, start-kept, length-kept, placed-more, has-kept, none-named}
+use Rattle.lookup.specs.Mark.{markOf}
 use Rattle.lookup.specs.Index.{slotCount, probes, way, placeOf, probed, entryOf, AtHome, markAt, Indexed, Enterable, Vacant, Stood}
 
 -- a stop put into the first empty slot, or nowhere

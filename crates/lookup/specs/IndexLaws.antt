@@ -1,17 +1,17 @@
 -- The walk along a mark's way: what is known of the slots that were passed, and what an empty slot or the stop's entry says.
-use Prim.Native.Nat.{ℕ, zero, suc, _+_, _*_, _-_, _/_, _%_, _≤_, _<_}
+use Prim.Native.Nat.{ℕ, _+_, _-_, _/_, _%_, _≤_, _<_}
 use mathlib.Core.Path.{_≡_, refl, sym, _∙_}
 use mathlib.Core.List.{List}
-use mathlib.Core.Bool.{Bool, true, false, cond}
+use mathlib.Core.Bool.{Bool, true, false}
 use native.Mathlib.Omega.{arith}
 use native.Mathlib.Numerals.{add-one}
 use native.Mathlib.Decide.{ℕ-discrete}
-use lib.ListN.{length, getD}
+use lib.ListN.{getD}
 use lib.Dec.{eqb}
-use borrow.Author.Tests.{eqb-true, eq-eqb}
+use borrow.Author.Tests.{eq-eqb}
 use Rattle.loops.specs.Chain.{stays}
 use Rattle.kinds.specs.Limits.{mostStops}
-use Rattle.lookup.specs.Lookup.{startOf, lengthOf, hasCode, stopNamed}
+use Rattle.lookup.specs.Lookup.{startOf, hasCode, stopNamed}
 use Rattle.lookup.specs.LookupLaws.{none-named, one-named, has-told, has-both}
 use Rattle.lookup.specs.Mark.{marksBelow, markOf}
 use Rattle.lookup.specs.MarkLaws.{mark-same}

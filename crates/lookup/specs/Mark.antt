@@ -30,8 +30,8 @@ pub record Small (m : Mix) : Type 0 where
   pub d-low : m .d < factorsBelow
 
 -- as many bytes as a code has at most
-unfoldable pub weighedBytes : ℕ → ℕ
-weighedBytes n = cond (ltb n mostCode) n mostCode
+unfoldable pub markedBytes : ℕ → ℕ
+markedBytes n = cond (ltb n mostCode) n mostCode
 
 -- four bytes from k on
 unfoldable pub wordAt : List ℕ → ℕ → ℕ
@@ -75,4 +75,4 @@ markOfBytes t a k =
     numberOf (mixedOf (blocksOf t a (startOfMix k) ((k - 1) / 8)) (e .first) (e .last))
 
 abbrev pub markOf : List ℕ → ℕ → ℕ → ℕ
-markOf t a n = markOfBytes t a (weighedBytes n)
+markOf t a n = markOfBytes t a (markedBytes n)

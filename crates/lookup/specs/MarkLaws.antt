@@ -1,5 +1,5 @@
 -- Laws of the mark: equal codes have the same one, and no number on the way to it is too great.
-use Prim.Native.Nat.{ℕ, zero, suc, _+_, _*_, _-_, _/_, _%_, _≤_, _<_}
+use Prim.Native.Nat.{ℕ, zero, suc, _+_, _*_, _-_, _/_, _≤_, _<_}
 use mathlib.Core.Path.{_≡_, refl}
 use mathlib.Core.List.{List}
 use mathlib.Core.Bool.{Bool, true, false, cond}
@@ -7,19 +7,19 @@ use native.Mathlib.Omega.{arith}
 use native.Mathlib.Nat.{mul-le-mul, add-assoc}
 use native.Mathlib.Decide.{decLt}
 use native.Mathlib.Numerals.{add-one}
-use lib.ListN.{length, getD}
+use lib.ListN.{getD}
 use lib.Dec.{ltb, eqb}
 use borrow.Author.Tests.{ltb-true, ltb-false, eq-eqb}
 use Rattle.loops.specs.Every.{sameB}
 use Rattle.loops.specs.EveryLaws.{same-at}
 use Rattle.kinds.specs.Limits.{mostCode}
-use Rattle.lookup.specs.Mark.{wordsBelow, marksBelow, Small, weighedBytes, wordAt, mixedOf, startOfMix, blocksOf, fewAt, endsOf, markOfBytes, markOf}
+use Rattle.lookup.specs.Mark.{wordsBelow, Small, markedBytes, wordAt, mixedOf, startOfMix, blocksOf, fewAt, endsOf, markOfBytes, markOf}
 use Rattle.lookup.specs.declared.Mix.{Mix}
 use Rattle.lookup.specs.declared.Ends.{Ends}
 
-pub weighed-few : (n : ℕ) → (weighedBytes n ≤ n) × (weighedBytes n ≤ mostCode)
-unfolding weighedBytes
-weighed-few n = go (ltb n mostCode) (ltb-true n mostCode) (ltb-false n mostCode)
+pub marked-few : (n : ℕ) → (markedBytes n ≤ n) × (markedBytes n ≤ mostCode)
+unfolding markedBytes
+marked-few n = go (ltb n mostCode) (ltb-true n mostCode) (ltb-false n mostCode)
   where
     go : (b : Bool) → (b ≡ true → n < mostCode) → (b ≡ false → mostCode ≤ n) → (cond b n mostCode ≤ n) × (cond b n mostCode ≤ mostCode)
     go true f g = (omega arith, omega (arith, f refl))
@@ -72,7 +72,7 @@ unfolding markOfBytes
 bytes-same {k = k} h = rw (ends-same h, blocks-same h (startOfMix k) ((k - 1) / 8) (omega arith))
 
 pub mark-same : (s : List ℕ) (a : ℕ) (t : List ℕ) (b n : ℕ) → sameB s a t b n ≡ true → markOf s a n ≡ markOf t b n
-mark-same s a t b n e = bytes-same (record { byte = λ k l. same-at s a t b n e k (omega (arith, weighed-few n)) })
+mark-same s a t b n e = bytes-same (record { byte = λ k l. same-at s a t b n e k (omega (arith, marked-few n)) })
 
 -- the product of a mix leaves room for what is added to it
 pub product : (x y : ℕ) → x ≤ 6442450943 → y ≤ 2147483647 → x * y ≤ 13835058046692229121

@@ -6,7 +6,7 @@ ghost use lib.ListN.{length};
 ghost use Rattle.lookup.specs.Lookup.{hasCode, stopNamed, putCode};
 ghost use Rattle.lookup.specs.LookupLaws.{Placed};
 ghost use Rattle.kinds.specs.Limits.{mostStops, mostCode};
-ghost use Rattle.lookup.specs.Mark.{wordsBelow, marksBelow, Small, weighedBytes, wordAt, mixedOf, startOfMix, blocksOf, fewAt, endsOf, markOf};
+ghost use Rattle.lookup.specs.Mark.{wordsBelow, marksBelow, Small, markedBytes, wordAt, mixedOf, startOfMix, blocksOf, fewAt, endsOf, markOf};
 ghost use Rattle.lookup.specs.Index.{slotCount, placeOf, onwardOf, isEntry, Indexed, Enterable, Vacant, Stood};
 
 // Whether stop j, whose code stands in s, has the code that is n bytes of t from `from` on.
@@ -142,8 +142,8 @@ fn end_words(t: &[u8], from: usize, k: usize) -> Ends
     }
 }
 
-fn weighed_bytes(n: usize) -> usize
-    ensures { λ r. ⌜ r ≡ weighedBytes n ⌝ }
+fn marked_bytes(n: usize) -> usize
+    ensures { λ r. ⌜ r ≡ markedBytes n ⌝ }
 {
     if n < Code::MOST { n } else { Code::MOST }
 }
@@ -153,7 +153,7 @@ fn mark(t: &[u8], from: usize, n: usize) -> u64
     requires { ⌜ from + n ≤ length (now t) ⌝ }
     ensures { λ r. ⌜ (r ≡ markOf (now (t .entry)) from n) × (r < marksBelow) ⌝ }
 {
-    let k = weighed_bytes(n);
+    let k = marked_bytes(n);
     let m = blocks(t, from, k, but_last(k, 1) / 8);
     let e = end_words(t, from, k);
     let z = mixed(m, e.first, e.last);

@@ -1,5 +1,4 @@
 use borrow.Author.Needs.{needs}
-use native.Mathlib.Omega.{arith}
 use Prim.Native.Nat.{_-_}
 use Rattle.lookup.specs.MarkLaws.{Mixing, mixing-none, mixing-more, mixing-end}
 use Rattle.lookup.proofs.blocks.Statement.{statement}
