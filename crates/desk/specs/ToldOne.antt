@@ -29,7 +29,7 @@ use Rattle.desk.specs.declared.Made.the-variants as made
 
 -- ---- what is spelled out
 
-module _ {b s codes : List ℕ} where
+module _ (b : List ℕ) {s codes : List ℕ} where
   label-spelled-one : {k : ℕ} {xs ys : List ℕ} → LabelSpelled (tablesOf b) s codes k xs → LabelSpelled (tablesOf b) s codes k ys → xs ≡ ys
   label-spelled-one x y =
       let z = label-one b (x .label) (y .label) in
@@ -89,7 +89,7 @@ module _ {s b : List ℕ} {roomR roomC lent : ℕ} where
           let t₂ : Spelled (tablesOf b) s (v .codes) (v .numbers) (v .stops) r xs = subst (λ (i : Sofar). Spelled (tablesOf b) s (i .codes) (i .numbers) (i .stops) r xs) h t in
           let k : r ≡ q = same-refusal (checked-one b (v .stops) (v .runs) (v .numbers) lent c₂ d) in
           let u₂ : Spelled (tablesOf b) s (v .codes) (v .numbers) (v .stops) r ys = subst (λ (i : Refusal). Spelled (tablesOf b) s (v .codes) (v .numbers) (v .stops) i ys) (sym k) u in
-          rw (k, spelled-one t₂ u₂)
+          rw (k, spelled-one b t₂ u₂)
 
   -- tables are not both accepted and refused
   accepts-refused : {k : Counts} {xs : List ℕ} → Accepts s b roomR roomC lent k → Refused s b roomR roomC lent xs → ⊥

@@ -1,7 +1,7 @@
 -- What one line of the timetable text says. The line is the stretch of the text s from a up to e, where its LF stands.
 use Prim.Native.Nat.{ℕ, _+_, _-_}
 use mathlib.Core.List.{List, [], _∷_}
-use mathlib.Core.Bool.{Bool, true, false, cond, not}
+use mathlib.Core.Bool.{cond, not}
 use lib.Dec.{ltb, leb, eqb}
 use Rattle.kinds.specs.Limits.{mostStops, mostRuns}
 use Rattle.kinds.specs.Refusals.{lineShape, codeBad, codeRepeated, overLimit}
@@ -13,7 +13,6 @@ use Rattle.words.specs.declared.Number.{Number}
 use Rattle.words.specs.declared.NumberRead.{NumberRead}
 use Rattle.words.specs.declared.NumberRead.the-variants as number
 use Rattle.lookup.specs.Lookup.{stopNamed}
-use Rattle.lines.specs.declared.Numbers.{Numbers}
 use Rattle.lines.specs.declared.NumbersRead.{NumbersRead}
 use Rattle.lines.specs.declared.NumbersRead.the-variants as numbers
 use Rattle.lines.specs.declared.Field.{Field}

@@ -1,7 +1,7 @@
 -- Which stop has a code. The codes are "numbers that say where each code starts and how long it is", two a stop, in rank order.
 use Prim.Native.Nat.{ℕ, zero, suc, _+_, _*_}
 use mathlib.Core.List.{List, [], _∷_}
-use mathlib.Core.Bool.{Bool, true, false, cond}
+use mathlib.Core.Bool.{Bool, false, cond}
 use lib.ListN.{getD}
 use lib.Dec.{eqb}
 use Rattle.loops.specs.Every.{sameB}

@@ -6,13 +6,12 @@ use mathlib.Core.Bool.{Bool, true, false, cond}
 use native.Mathlib.Omega.{arith}
 use native.Mathlib.Decide.{ℕ-discrete}
 use native.Mathlib.Nat.{add-zero}
-use lib.ListN.{length, getD}
+use lib.ListN.{length}
 use lib.Dec.{eqb}
 use borrow.Author.Tests.{eqb-true, eq-eqb}
 use Rattle.loops.specs.Chain.{stays}
 use Rattle.loops.specs.Every.{sameB}
 use Rattle.loops.specs.EveryLaws.{same-at, same-of}
-use Rattle.loops.specs.Put.{putFrom}
 use Rattle.loops.specs.PutLaws.{put-length, put-before, put-at}
 use Rattle.lookup.specs.Lookup.{startOf, lengthOf, hasCode, stopIn, stopNamed, putCode}
 

@@ -1,7 +1,7 @@
 // Which stop has a code. Codes are compared whole: the length first, then every byte.
 use kinds::Code;
 ghost use mathlib.Core.Path.{_≡_};
-ghost use Prim.Native.Nat.{ℕ, _+_, _*_, _-_, _%_, _≤_, _<_};
+ghost use Prim.Native.Nat.{_+_, _*_, _-_, _%_, _≤_, _<_};
 ghost use lib.ListN.{length};
 ghost use Rattle.lookup.specs.Lookup.{hasCode, stopNamed, putCode};
 ghost use Rattle.lookup.specs.LookupLaws.{Placed};

@@ -9,7 +9,7 @@ use native.Mathlib.Numerals.{add-one}
 use native.Mathlib.Nat.{eq-or-lt-of-le}
 use lib.ListN.{getD}
 use lib.Dec.{eqb}
-use borrow.Author.Tests.{eqb-true}
+use borrow.Author.Tests.{eqb-true, eq-eqb}
 use Rattle.loops.specs.Every.{allB, sameB}
 
 pub all-none : (p : ℕ → Bool) → allB p 0 ≡ true
@@ -46,3 +46,7 @@ all-of p (suc n) h = rw (all-of p n (λ k l. h k (omega arith)), h n (omega arit
 pub same-at : (s : List ℕ) (a : ℕ) (t : List ℕ) (b n : ℕ) → sameB s a t b n ≡ true → (k : ℕ) → k < n → getD s (a + k) 0 ≡ getD t (b + k) 0
 unfolding sameB
 same-at s a t b n e k lt = eqb-true _ _ (all-at (λ k. eqb (getD s (a + k) 0) (getD t (b + k) 0)) n k e lt)
+
+pub same-of : (s : List ℕ) (a : ℕ) (t : List ℕ) (b n : ℕ) → ((k : ℕ) → k < n → getD s (a + k) 0 ≡ getD t (b + k) 0) → sameB s a t b n ≡ true
+unfolding sameB
+same-of s a t b n h = all-of (λ k. eqb (getD s (a + k) 0) (getD t (b + k) 0)) n (λ k l. eq-eqb _ _ (h k l))

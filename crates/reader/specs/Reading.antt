@@ -1,15 +1,15 @@
 -- The loop over the lines: what is still to be read gives the whole outcome.
-use Prim.Native.Nat.{ℕ, zero, suc, _+_, _*_, _-_, _≤_, _<_}
-use mathlib.Core.Path.{_≡_, refl, sym, ap, _∙_}
+use Prim.Native.Nat.{ℕ, zero, suc, _+_, _-_, _≤_, _<_}
+use mathlib.Core.Path.{_≡_, refl, sym, _∙_}
 use mathlib.Core.List.{List}
 use mathlib.Core.Bool.{Bool, true, false, cond}
 use native.Mathlib.Omega.{arith}
-use lib.ListN.{length, replicate, length-set}
-use lib.Dec.{ltb, leb}
+use lib.ListN.{length, length-set}
+use lib.Dec.{leb}
 use borrow.Author.Tests.{le-leb, lt-leb, leb-false, lt-ltb, le-ltb}
 use Rattle.loops.specs.Zero.{zeros}
-use Rattle.kinds.specs.Limits.{mostStops, mostRuns, mostText, runsRoom, codesRoom}
-use Rattle.kinds.specs.Refusals.{refusal, lineShape}
+use Rattle.kinds.specs.Limits.{mostRuns, mostText, runsRoom, codesRoom}
+use Rattle.kinds.specs.Refusals.{lineShape}
 use Rattle.kinds.specs.declared.Refusal.{Refusal}
 use Rattle.kinds.specs.declared.Code.{Code}
 use Rattle.kinds.specs.declared.Run.{Run}

@@ -1,8 +1,7 @@
 -- What a timetable text means: line by line, with what was read so far; "The first bad line decides."
 use Prim.Native.Nat.{ℕ, zero, suc, _+_, _*_, _-_}
-use mathlib.Core.Path.{_≡_}
 use mathlib.Core.List.{List, [], _∷_}
-use mathlib.Core.Bool.{Bool, true, false, cond}
+use mathlib.Core.Bool.{cond}
 use lib.ListN.{length, replicate}
 use lib.Dec.{ltb, leb}
 use Rattle.loops.specs.Put.{putFrom}

@@ -1,12 +1,12 @@
 -- What holds of every text that was read whole: its numbers are good numbers, its codes are codes and no two are one, and the rest of each room is zero.
 use Prim.Native.Nat.{ℕ, zero, suc, _+_, _*_, _-_, _≤_, _<_}
-use mathlib.Core.Path.{_≡_, refl, sym, ap, subst, _∙_}
+use mathlib.Core.Path.{_≡_, refl, subst, _∙_}
 use mathlib.Core.List.{List, [], _∷_}
-use mathlib.Core.Bool.{Bool, true, false, cond}
+use mathlib.Core.Bool.{true, false}
 use native.Mathlib.Omega.{arith}
-use native.Mathlib.Decide.{ℕ-discrete, decLt}
+use native.Mathlib.Decide.{ℕ-discrete}
 use native.Mathlib.Nat.{add-zero}
-use lib.ListN.{length, getD, replicate, length-replicate, getD-replicate}
+use lib.ListN.{length, getD, replicate, length-replicate}
 use lib.Dec.{ltb, leb}
 use borrow.Author.Tests.{ltb-false, leb-false}
 use Rattle.loops.specs.Chain.{past, stays}
@@ -17,14 +17,14 @@ use Rattle.kinds.specs.declared.Code.{Code}
 use Rattle.kinds.specs.declared.Run.{Run}
 use Rattle.words.specs.Words.{lf, seek, beginsB, isCode}
 use Rattle.words.specs.WordsLaws.{seek-low, seek-high, begins-long}
-use Rattle.lookup.specs.Lookup.{startOf, lengthOf, hasCode, stopNamed, putCode}
+use Rattle.lookup.specs.Lookup.{startOf, lengthOf, hasCode, putCode}
 use Rattle.lookup.specs.LookupLaws.{Placed, named-none, has-kept, code-length, start-put, length-put, start-kept, length-kept, placed-more}
 use Rattle.lines.specs.Lines.{lineOf}
 use Rattle.lines.specs.LinesLaws.{FineStop, FineRun, FineLine, line-fine}
 use Rattle.lines.specs.declared.Line.{Line}
 use Rattle.lines.specs.declared.Line.the-variants as kind
 use Rattle.reader.specs.declared.Counts.{Counts}
-use Rattle.reader.specs.declared.ReadAnswer.the-variants.{Read, No}
+use Rattle.reader.specs.declared.ReadAnswer.the-variants.{Read}
 use Rattle.reader.specs.Text.{Sofar, Outcome, whole, bad, putRun, withStop, withRun, next, readFrom, firstWord, start, readText, answerOf, runsOf, codesOf}
 
 -- run i of the list is this one

@@ -5,7 +5,7 @@ use kinds::Stop;
 use kinds::Text;
 use lines::Line;
 ghost use mathlib.Core.Path.{_≡_};
-ghost use Prim.Native.Nat.{ℕ, _+_, _*_, _≤_};
+ghost use Prim.Native.Nat.{_+_, _*_, _≤_};
 ghost use lib.ListN.{length};
 ghost use Rattle.loops.specs.Zero.{zeros};
 ghost use Rattle.kinds.specs.Limits.{runNumbers};

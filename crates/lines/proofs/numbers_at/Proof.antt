@@ -1,5 +1,4 @@
-use mathlib.Core.Path.{_≡_, sym, _∙_}
-use lib.Dec.{leb, ltb}
+use mathlib.Core.Path.{sym, _∙_}
 use borrow.Author.Tests.{le-leb, lt-leb, lt-ltb, le-ltb}
 use Rattle.words.specs.WordsLaws.{number-bad}
 use Rattle.lines.specs.Lines.{numbersAt}

@@ -1,4 +1,3 @@
-use borrow.Author.Needs.{needs}
 use borrow.Author.Tests.{lt-ltb, le-ltb}
 use Rattle.lookup.specs.Mark.{markedBytes}
 use Rattle.lookup.proofs.marked_bytes.Statement.{statement}

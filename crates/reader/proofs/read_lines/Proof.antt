@@ -1,8 +1,8 @@
 use borrow.Author.Needs.{needs}
 use Prim.Native.Nat.{_-_}
-use mathlib.Core.Path.{_≡_, refl, sym, _∙_}
+use mathlib.Core.Path.{refl, sym, _∙_}
 use native.Mathlib.Omega.{arith}
-use lib.ListN.{length, length-set}
+use lib.ListN.{length}
 use Rattle.lookup.specs.LookupLaws.{named-none}
 use Rattle.lines.specs.LinesLaws.{stop-known, run-known}
 use Rattle.reader.specs.Reading.{linesOf, Reading, reading-none, reading-unfinished, reading-bad, reading-after, reading-whole, reading-stop, reading-run}
