@@ -1,7 +1,7 @@
 //! The whole suite over the plain implementation: what ours is measured against
 //! gives the same answers, and the tests can pass.
 
-use suite::{Ask, Asks, Builds, Checks, Kind, Numbers, Program, Reads, Rides};
+use suite::{Ask, Asks, Builds, Checks, Numbers, Program, Reads, Rides};
 
 struct Plain;
 
@@ -35,11 +35,7 @@ impl Checks for Plain {
 }
 
 fn asked(ask: Ask) -> plain::Ask {
-    match ask.kind {
-        Kind::Early => plain::Ask::Early(ask.t),
-        Kind::Late => plain::Ask::Late(ask.t),
-        Kind::Short => plain::Ask::Short(ask.t, ask.t2),
-    }
+    ask.said(plain::Ask::Early, plain::Ask::Late, plain::Ask::Short)
 }
 
 impl Asks for Plain {

@@ -211,11 +211,7 @@ fn check_row(name: String, bytes: Vec<u8>, day: &Day) -> Row {
 
 /// An ask as plain takes it.
 fn plain_of(ask: Ask) -> plain::Ask {
-    match ask.kind {
-        Kind::Early => plain::Ask::Early(ask.t),
-        Kind::Late => plain::Ask::Late(ask.t),
-        Kind::Short => plain::Ask::Short(ask.t, ask.t2),
-    }
+    ask.said(plain::Ask::Early, plain::Ask::Late, plain::Ask::Short)
 }
 
 fn plain_ask(tables: &[u8], ask: Ask, answer: &mut [u32; 4]) {

@@ -2,7 +2,7 @@
 
 #![allow(unused_imports, unused_variables, clippy::too_many_arguments)]
 
-use generate::asks::{Ask, Kind};
+use generate::asks::Ask;
 use generate::days::Day;
 
 #[cfg(any(feature = "build", feature = "check", feature = "rides"))]
@@ -12,11 +12,8 @@ fn numbers<'a>(day: &Day, runs: &'a [u32]) -> kiosk::Numbers<'a> {
 
 #[cfg(any(feature = "asks", feature = "rides"))]
 fn ask_of(ask: Ask) -> kiosk::Ask {
-    match ask.kind {
-        Kind::Early => kiosk::Ask::Early { t: ask.t },
-        Kind::Late => kiosk::Ask::Late { t: ask.t },
-        Kind::Short => kiosk::Ask::Short { t: ask.t, t2: ask.t2 },
-    }
+    use kiosk::Ask::*;
+    ask.said(|t| Early { t }, |t| Late { t }, |t, t2| Short { t, t2 })
 }
 
 pub fn read(text: &[u8], runs: &mut [u32], codes: &mut [u32], answer: &mut [u32; 4]) -> bool {

@@ -20,6 +20,23 @@ pub enum Kind {
     Short,
 }
 
+impl Ask {
+    /// The ask as somebody else's kind of ask: one constructor for each of the
+    /// three, of the minutes that it takes.
+    pub fn said<T>(
+        self,
+        early: impl FnOnce(u32) -> T,
+        late: impl FnOnce(u32) -> T,
+        short: impl FnOnce(u32, u32) -> T,
+    ) -> T {
+        match self.kind {
+            Kind::Early => early(self.t),
+            Kind::Late => late(self.t),
+            Kind::Short => short(self.t, self.t2),
+        }
+    }
+}
+
 pub const KINDS: [Kind; 3] = [Kind::Early, Kind::Late, Kind::Short];
 
 /// A good ask of n stops, n at least 2, its minutes mostly near those given.

@@ -8,7 +8,7 @@ pub mod process;
 pub mod program;
 
 #[allow(unused_imports)]
-use suite::{Ask, Kind, Numbers};
+use suite::{Ask, Numbers};
 
 /// The static library `target/staticlib/libkiosk.a`.
 pub struct Library;
@@ -72,9 +72,6 @@ fn numbers(given: Numbers<'_>) -> kiosk::Numbers<'_> {
 
 #[cfg(any(feature = "asks", feature = "rides"))]
 fn asked(ask: Ask) -> kiosk::Ask {
-    match ask.kind {
-        Kind::Early => kiosk::Ask::Early { t: ask.t },
-        Kind::Late => kiosk::Ask::Late { t: ask.t },
-        Kind::Short => kiosk::Ask::Short { t: ask.t, t2: ask.t2 },
-    }
+    use kiosk::Ask::*;
+    ask.said(|t| Early { t }, |t| Late { t }, |t, t2| Short { t, t2 })
 }

@@ -18,11 +18,7 @@ fn day_of(day: &days::Day) -> Day {
 }
 
 fn ask_of(ask: generate::asks::Ask) -> Ask {
-    match ask.kind {
-        Kind::Early => Ask::Early { t: ask.t },
-        Kind::Late => Ask::Late { t: ask.t },
-        Kind::Short => Ask::Short { t: ask.t, t2: ask.t2 },
-    }
+    ask.said(|t| Ask::Early { t }, |t| Ask::Late { t }, |t, t2| Ask::Short { t, t2 })
 }
 
 /// Asks tables with rides into a list with room to spare; the rest must be zero.

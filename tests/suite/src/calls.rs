@@ -2,7 +2,7 @@
 
 use crate::lent::Lent;
 use crate::{count_call, Asks, Builds, Checks, Program, Reads, Rides};
-use generate::asks::{Ask, Kind};
+use generate::asks::Ask;
 use generate::days::{self, Day};
 use generate::{example, Rng};
 use oracle::calls::{self as right, Numbers, Room};
@@ -80,11 +80,8 @@ impl Given {
 }
 
 pub fn ask_of(ask: Ask) -> journeys::Ask {
-    match ask.kind {
-        Kind::Early => journeys::Ask::Early { t: ask.t },
-        Kind::Late => journeys::Ask::Late { t: ask.t },
-        Kind::Short => journeys::Ask::Short { t: ask.t, t2: ask.t2 },
-    }
+    use journeys::Ask::*;
+    ask.said(|t| Early { t }, |t| Late { t }, |t, t2| Short { t, t2 })
 }
 
 fn shown_bytes(bytes: &[u8]) -> String {

@@ -19,7 +19,7 @@ pub mod read;
 pub mod rides;
 pub mod room;
 
-pub use generate::asks::{Ask, Kind};
+pub use generate::asks::Ask;
 pub use oracle::calls::Numbers;
 use std::cell::Cell;
 
