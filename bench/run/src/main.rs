@@ -257,6 +257,18 @@ fn asked(rows: &mut Vec<Row>) {
     let star = tables::star(8_192).bytes();
     let one_stop = tables::one_stop(8_192).bytes();
     let one_owner = tables::one_owner(8_192).bytes();
+    // No stop has number 255: the whole file is judged, and then the answer is 12.
+    let unknown = Ask { kind: Kind::Early, from: 255, to: 0, t: 0, t2: 0 };
+    for (name, bytes) in [
+        ("T", &t),
+        ("city", &city),
+        ("8,192 labels of the rule", &full),
+        ("8,192 labels in a star", &star),
+        ("8,192 labels at one stop", &one_owner),
+        ("8,192 labels at two stops, joined", &one_stop),
+    ] {
+        rows.push(ask_row("judge", name, bytes, &[unknown]));
+    }
     for kind in KINDS {
         let inputs = [
             ("T", &t, some_asks(&Sets::from_bytes(&t), kind)),
@@ -267,25 +279,30 @@ fn asked(rows: &mut Vec<Row>) {
             ("8,192 labels at two stops, joined", &one_stop, widest(kind, 254, 253)),
         ];
         for (name, bytes, some) in inputs {
-            let (mut answer, mut our_answer) = ([1; 4], [1; 4]);
-            let mut linked = false;
-            for ask in &some {
-                plain_ask(bytes, *ask, &mut answer);
-                linked = ours::ask(bytes, *ask, &mut our_answer);
-                assert!(!linked || our_answer == answer, "{name}: {ask:?}");
-            }
-            let (mut i, mut j) = (0, 0);
-            let mut ours = || {
-                i = (i + 1) % some.len();
-                ours::ask(black_box(bytes), some[i], &mut our_answer);
-            };
-            let plain = &mut || {
-                j = (j + 1) % some.len();
-                plain_ask(black_box(bytes), some[j], &mut answer);
-            };
-            rows.push(row(name_of(kind, false), name.into(), plain, linked.then_some(&mut ours)));
+            rows.push(ask_row(name_of(kind, false), name, bytes, &some));
         }
     }
+}
+
+/// These asks in turn.
+fn ask_row(entry: &'static str, name: &str, bytes: &[u8], some: &[Ask]) -> Row {
+    let (mut answer, mut our_answer) = ([1; 4], [1; 4]);
+    let mut linked = false;
+    for ask in some {
+        plain_ask(bytes, *ask, &mut answer);
+        linked = ours::ask(bytes, *ask, &mut our_answer);
+        assert!(!linked || our_answer == answer, "{name}: {ask:?}");
+    }
+    let (mut i, mut j) = (0, 0);
+    let mut ours = || {
+        i = (i + 1) % some.len();
+        ours::ask(black_box(bytes), some[i], &mut our_answer);
+    };
+    let plain = &mut || {
+        j = (j + 1) % some.len();
+        plain_ask(black_box(bytes), some[j], &mut answer);
+    };
+    row(entry, name.into(), plain, linked.then_some(&mut ours))
 }
 
 fn plain_rides(

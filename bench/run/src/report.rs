@@ -37,7 +37,8 @@ buffers are full of the call before. Each input is first compared, the answer an
 
 `read` is plain with a hash map for the codes, `read, scan` plain that goes through the stops for each code. `build` is plain with
 one scan for each departure, as ours; `build, by hubs` is the pruned search of source document 004 (its Algorithm 3), which finds
-the same labels but no pivots by the rule.
+the same labels but no pivots by the rule. `judge` is an early ask of a stop that there is not: the whole file is judged, and then
+the answer is 12.
 ";
 
 /// The whole of docs/BENCH.md.
@@ -48,7 +49,8 @@ pub fn markdown(rows: &[Row], growth: &[Growth]) -> String {
         writeln!(text, "| {entry} | {middle:.2} | {worst:.2} |").unwrap();
     }
     let is_over = |row: &&Row| row.ratio().is_some_and(|r| r > TARGET);
-    let over: Vec<&Row> = rows.iter().filter(is_over).collect();
+    let grown = growth.iter().flat_map(|g| [&g.build, &g.check]);
+    let over: Vec<&Row> = rows.iter().chain(grown).filter(is_over).collect();
     text.push_str("\nOver the target: ");
     let names: Vec<String> =
         over.iter().map(|row| format!("{} on {}", row.entry, row.input)).collect();
