@@ -183,9 +183,8 @@ fn checks(rows: &mut Vec<Row>) {
     inputs.push(("4,096 labels at one stop, 4,096 runs".into(), bytes, day));
     let (bytes, day) = with_runs(tables::star(4_096));
     inputs.push(("4,096 labels in a star, 4,096 runs".into(), bytes, day));
-    let (bytes, day) = with_runs(tables::one_bucket(4_096));
-    let name = format!("{0} runs and labels made for one bucket", day.run_count());
-    inputs.push((name, bytes, day));
+    let (bytes, day) = with_runs(tables::one_minute(4_096));
+    inputs.push(("4,096 labels at one minute, 4,096 runs".into(), bytes, day));
     for (name, bytes, day) in inputs {
         rows.push(check_row(name, bytes, &day));
     }
@@ -332,6 +331,7 @@ fn rides(rows: &mut Vec<Row>) {
     };
     let (deep_first, deep_second) = (deep(true), deep(false));
     let one_pair = with_own(days::one_pair(&mut rng));
+    let one_minute = with_own(days::one_minute(&mut rng));
     for kind in KINDS {
         let some = |input: &(Vec<u8>, Day)| some_asks(&Sets::from_bytes(&input.0), kind);
         let ends = |(from, to)| widest(kind, from, to);
@@ -340,6 +340,7 @@ fn rides(rows: &mut Vec<Row>) {
             ("city", &city, some(&city)),
             ("8,192 labels of the rule", &full, some(&full)),
             ("4,096 runs at one stop pair", &one_pair, some(&one_pair)),
+            ("4,096 runs at one minute", &one_minute, some(&one_minute)),
             ("chain of 2,879 rides", &chain, ends(days::CHAIN_ENDS)),
             ("2,879 rides, deep in first labels", &deep_first, ends(tables::deep_ends(true))),
             ("2,879 rides, deep in second labels", &deep_second, ends(tables::deep_ends(false))),

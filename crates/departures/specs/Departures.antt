@@ -1,28 +1,23 @@
 -- The runs by departure: what stands in the index, and which run is looked up.
-use Prim.Native.Nat.{ℕ, _+_, _*_, _%_, _≤_, _<_}
+use Prim.Native.Nat.{ℕ, _+_, _%_, _≤_, _<_}
 use mathlib.Core.Path.{_≡_}
 use mathlib.Core.List.{List}
 use lib.ListN.{length, getD}
 use Rattle.loops.specs.First.{FirstAt}
-use Rattle.kinds.specs.Limits.{mostRuns, lastMinute}
+use Rattle.kinds.specs.Limits.{lastMinute}
 use Rattle.kinds.specs.declared.Run.{Run}
 use Rattle.timetable.specs.Numbers.{runAt}
 
--- a bucket a minute: the runs of one stop share a bucket only where they leave at the same minute. Which runs share one otherwise is of no
--- matter to what is found, only to how soon.
+-- a bucket a minute: runs share one where they leave at the same minute
 abbrev pub buckets : ℕ
 buckets = lastMinute + 1
 
--- the bucket of what leaves the stop u at the minute d
-unfoldable pub bucketOf : ℕ → ℕ → ℕ
-bucketOf u d = (d + 1129 * u) % buckets
-
--- a number for each bucket, and one for each run
-abbrev pub indexRoom : ℕ
-indexRoom = buckets + mostRuns
+-- the bucket of what leaves at the minute d; what is no minute has one too
+unfoldable pub bucketOf : ℕ → ℕ
+bucketOf d = d % buckets
 
 abbrev pub bucketAt : List ℕ → ℕ → ℕ
-bucketAt list i = bucketOf (runAt list i .from) (runAt list i .dep)
+bucketAt list i = bucketOf (runAt list i .dep)
 
 -- run i falls into bucket h
 abbrev pub Falls : List ℕ → ℕ → ℕ → Type 0

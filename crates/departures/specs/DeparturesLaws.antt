@@ -1,6 +1,6 @@
 -- Laws of the runs by departure: one run more, the walk along the runs of a bucket, and that the index is one.
 use Prim.Native.Nat.{ℕ, _+_, _-_, _≤_, _<_}
-use mathlib.Core.Path.{_≡_, refl, sym, ap₂, subst, _∙_}
+use mathlib.Core.Path.{_≡_, refl, sym, ap, subst, _∙_}
 use mathlib.Core.List.{List}
 use mathlib.Core.Bool.{Bool, true, false}
 use native.Mathlib.Omega.{arith}
@@ -19,9 +19,9 @@ use Rattle.departures.specs.Departures.{buckets, bucketOf, bucketAt, Fal
 use Rattle.departures.specs.Turns.{withRun}
 
 -- there is each bucket
-pub bucket-below : (u d : ℕ) → bucketOf u d < buckets
+pub bucket-below : (d : ℕ) → bucketOf d < buckets
 unfolding bucketOf
-bucket-below u d = omega arith
+bucket-below d = omega arith
 
 -- ---- the runs from k on
 
@@ -51,7 +51,7 @@ kept-then f g = record { long = g .long ∙ f .long; beyond = λ p le. g .beyond
 -- one run more
 module _ (list : List ℕ) (k : ℕ) {count : ℕ} {before l : List ℕ} (I : IndexedFrom list count (k + 1) before l) (long : buckets + count ≤ length before) where
   low : bucketAt list k < buckets
-  low = bucket-below (runAt list k .from) (runAt list k .dep)
+  low = bucket-below (runAt list k .dep)
 
   long-l : buckets + count ≤ length l
   long-l = omega (arith, I .kept .long)
@@ -125,15 +125,15 @@ passed-append {g = g} p q = record {
 pub record WalkedTo (list : List ℕ) (u v d a count i : ℕ) : Type 0 where
   pub high : i ≤ count
   pub passed : Passed (RunIs list u v d a) 0 i
-  pub falls : i < count → Falls list (bucketOf u d) i
+  pub falls : i < count → Falls list (bucketOf d) i
 
 -- what is not in its bucket is not the run
 module _ (list : List ℕ) (u v d a : ℕ) where
-  passed-others : {f k : ℕ} → Passed (Falls list (bucketOf u d)) f k → Passed (RunIs list u v d a) f k
-  passed-others p = record { low = p .low; none = λ j le lt r. p .none j le lt (ap₂ bucketOf (r .goes) (r .leaves)) }
+  passed-others : {f k : ℕ} → Passed (Falls list (bucketOf d)) f k → Passed (RunIs list u v d a) f k
+  passed-others p = record { low = p .low; none = λ j le lt r. p .none j le lt (ap bucketOf (r .leaves)) }
 
   module _ {count i : ℕ} where
-    pub walk-begin : {h : ℕ} → h ≡ bucketOf u d → FirstAt (Falls list h) 0 count i → WalkedTo list u v d a count i
+    pub walk-begin : {h : ℕ} → h ≡ bucketOf d → FirstAt (Falls list h) 0 count i → WalkedTo list u v d a count i
     walk-begin e H =
         let F = subst (λ (z : ℕ). FirstAt (Falls list z) 0 count i) e H in
         record { high = F .high; passed = passed-others (F .passed); falls = F .here }

@@ -1,5 +1,6 @@
 // The runs by departure, in buckets: for each bucket the first of its runs, and for each run the next one of the same bucket. So a run is
-// looked up among those of its bucket only: those that leave its stop at its minute, and what else falls there.
+// looked up among those only that leave when it does. The rides of a journey leave one after the other, so the look-ups of one ask together
+// meet each run at most once.
 use kinds::Minute;
 use kinds::Run;
 ghost use mathlib.Core.Path.{_≡_};
@@ -10,31 +11,18 @@ ghost use Rattle.loops.specs.First.{FirstAt};
 ghost use Rattle.loops.specs.Tells.{Tells};
 ghost use Rattle.kinds.specs.Limits.{mostRuns};
 ghost use Rattle.timetable.specs.Numbers.{GoodRunAt, GoodNumbers};
-ghost use Rattle.departures.specs.Departures.{buckets, bucketOf, indexRoom, Indexed, Kept, IsRun, RunIs};
+ghost use Rattle.departures.specs.Departures.{buckets, bucketOf, Indexed, Kept, IsRun, RunIs};
 ghost use Rattle.departures.specs.Turns.{withRun};
 
 // A bucket a minute.
 const BUCKETS: usize = (Minute::LAST as usize) + 1;
 
-// How far apart the buckets of two stops are for one minute.
-const APART: usize = 1129;
-
-// A number for each bucket, and one for each run.
-pub const ROOM: usize = BUCKETS + Run::MOST;
-
-pub fn room() -> usize
-    ensures { λ r. do ⌜ r ≡ (← ⟦ROOM⟧ .entry) ⌝ }
-    ensures { λ r. ⌜ r ≡ indexRoom ⌝ }
-{
-    ROOM
-}
-
-// Where to look for what leaves this stop at this minute.
-fn bucket_of(from: u16, dep: u16) -> usize
-    ensures { λ r. ⌜ r ≡ bucketOf from dep ⌝ }
+// Where to look for what leaves at this minute.
+fn bucket_of(dep: u16) -> usize
+    ensures { λ r. ⌜ r ≡ bucketOf dep ⌝ }
     ensures { λ r. ⌜ r < buckets ⌝ }
 {
-    ((dep as usize) + APART * (from as usize)) % BUCKETS
+    (dep as usize) % BUCKETS
 }
 
 // No run yet in any bucket.
@@ -58,7 +46,7 @@ fn add(runs: &[u32], i: usize, index: &mut [u16])
     ensures { λ _. ⌜ now (index .exit) ≡ withRun (now (runs .entry)) i (now (index .entry)) ⌝ }
 {
     let run = timetable::run_at(runs, i);
-    let h = bucket_of(run.from, run.dep);
+    let h = bucket_of(run.dep);
     index[BUCKETS + i] = index[h];
     index[h] = i as u16;
 }
@@ -78,7 +66,8 @@ pub fn index(runs: &[u32], count: usize, index: &mut [u16])
     }
 }
 
-fn is_run(run: Run, from: u16, to: u16, dep: u16, arr: u16) -> bool
+// Whether a run has these ends and minutes.
+pub fn is_run(run: Run, from: u16, to: u16, dep: u16, arr: u16) -> bool
     ensures { λ r. ⌜ Tells (IsRun run from to dep arr) r ⌝ }
 {
     if run.from != from {
@@ -111,7 +100,7 @@ pub fn find(
     requires { ⌜ Indexed (now runs) count (λ p. getD (now index) p 0) ⌝ }
     ensures { λ r. ⌜ FirstAt (RunIs (now (runs .entry)) from to dep arr) 0 count r ⌝ }
 {
-    let mut i = index[bucket_of(from, dep)] as usize;
+    let mut i = index[bucket_of(dep)] as usize;
     while i < count {
         let run = timetable::run_at(runs, i);
         if is_run(run, from, to, dep, arr) {

@@ -5,7 +5,7 @@ use mathlib.Core.List.{List}
 use lib.ListN.{length, getD}
 use lib.Dec.{eqb}
 use Rattle.loops.specs.Unless.{unless}
-use Rattle.kinds.specs.Limits.{mostStops}
+use Rattle.kinds.specs.Limits.{mostStops, mostLabels}
 use Rattle.kinds.specs.Refusals.{refusal, stopsDiffer}
 use Rattle.tables.specs.declared.TablesRead.{TablesRead}
 use Rattle.tables.specs.declared.TablesRead.the-variants as tables
@@ -14,7 +14,7 @@ use Rattle.tables.specs.Good.{GoodFile}
 use Rattle.timetable.specs.declared.Judged.{Judged}
 use Rattle.timetable.specs.declared.Judged.the-variants as numbers
 use Rattle.timetable.specs.Numbers.{GoodNumbers}
-use Rattle.departures.specs.Departures.{buckets, indexRoom, Indexed}
+use Rattle.departures.specs.Departures.{buckets, Indexed}
 
 -- "Check: 9, 10, 11, the timetable's, 21", and "With rides: after 11 those of the timetable numbers and 21": what is refused before tables
 -- and timetable are held against each other, or the stop count of both
@@ -23,12 +23,12 @@ judgedBoth (tables.No x) j stops = tables.No x
 judgedBoth (tables.Good n) (numbers.No x) stops = tables.No x
 judgedBoth (tables.Good n) numbers.Good stops = unless (eqb n stops) (tables.No (refusal stopsDiffer 0)) (tables.Good n)
 
--- "Working room for any call is a fixed size": two sets a stop and one number more, and behind them the runs by departure
+-- "Working room for any call is a fixed size": two sets a stop and one number more, and behind them a number for each label
 abbrev pub startsRoom : ℕ
 startsRoom = 2 * mostStops + 1
 
 abbrev pub groundRoom : ℕ
-groundRoom = startsRoom + indexRoom
+groundRoom = startsRoom + mostLabels
 
 -- a good file of n stops, with the starts of its sets written down and the number of labels behind them
 pub record Ready (b : List ℕ) (n : ℕ) (room : List ℕ) : Type 0 where

@@ -83,6 +83,13 @@ module _ (s : ℕ) (x : List ℕ) where
 
 -- ---- the room made ready: first the starts, then the runs behind them
 
+pub started : {b : List ℕ} {n : ℕ} (before : List ℕ) {x : List ℕ} → GoodFile b n → groundRoom ≤ length before → x ≡ filled (startOf b) (2 * n + 1) before → Ready b n x
+started {b} {n} before G long e = record {
+  file = G;
+  long = omega (arith, ap length e, length-filled (startOf b) (2 * n + 1) before, G .room .contents .few);
+  are = λ set le. ap (λ l. getD l set 0) e ∙ filled-at (startOf b) (2 * n + 1) before set (omega arith) (omega (arith, G .room .contents .few));
+}
+
 module _ {b : List ℕ} {n : ℕ} {runs : List ℕ} {count : ℕ} (before : List ℕ) {x y z : List ℕ} (G : GoodFile b n) (N : GoodNumbers n count runs) (long : groundRoom ≤ length before)
     (e : x ≡ filled (startOf b) (2 * n + 1) before) (I : Indexed runs count (λ p. getD y p 0)) (K : Kept (buckets + count) (midOf startsRoom (length x - startsRoom) x) y)
     (f : z ≡ putMid startsRoom (length x - startsRoom) x y) where
@@ -103,7 +110,7 @@ module _ {b : List ℕ} {n : ℕ} {runs : List ℕ} {count : ℕ} (before : List
     ready = record {
       file = G;
       long = omega (arith, same, N .few);
-      are = λ set le. low set (omega (arith, N .few)) ∙ ap (λ l. getD l set 0) e ∙ filled-at (startOf b) (2 * n + 1) before set (omega arith) (omega (arith, N .few));
+      are = λ set le. low set (omega (arith, N .few)) ∙ started before G long e .are set le;
     };
     by-departure = record {
       numbers = N;

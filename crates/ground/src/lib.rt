@@ -1,4 +1,5 @@
 // What the check and the ride list stand on: tables and timetable judged together, and the working room made ready for them.
+use kinds::Label;
 use kinds::Refusal;
 use kinds::Stop;
 use tables::TablesRead;
@@ -14,8 +15,9 @@ ghost use Rattle.ground.specs.Ground.{groundRoom, judgedBoth, Ground, Be
 // The starts of two sets a stop, and behind them the number of labels.
 pub const STARTS: usize = 2 * Stop::MOST + 1;
 
-// Working room, in numbers of two bytes: the starts of the sets, and behind them the runs by departure.
-pub const ROOM: usize = STARTS + departures::ROOM;
+// Working room, in numbers of two bytes: the starts of the sets, and behind them a number for each label. The runs by departure, which the
+// ride list has there instead, need less.
+pub const ROOM: usize = STARTS + Label::MOST;
 
 pub fn room() -> usize
     ensures { λ r. do ⌜ r ≡ (← ⟦ROOM⟧ .entry) ⌝ }

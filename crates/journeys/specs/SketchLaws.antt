@@ -7,7 +7,7 @@ use native.Mathlib.Omega.{arith}
 use native.Mathlib.Decide.{ℕ-discrete, decLe, decLt}
 use Rattle.loops.specs.Decide.{any-below, dec-then, dec-or, dec-map}
 use Rattle.kinds.specs.Limits.{lastMinute}
-use Rattle.journeys.specs.Tables.{Side, outs, ins, Tables, Entry, of-out, of-in, Label, GoodTables, Sketch, single, joined}
+use Rattle.journeys.specs.Tables.{Side, outs, ins, Tables, Entry, LabelAt, of-out, of-in, Label, GoodTables, Sketch, single, joined}
 use Rattle.journeys.specs.PairLaws.{Within}
 
 -- one number, one label
@@ -56,6 +56,12 @@ module _ {T : Tables} (G : GoodTables T) where
   -- of the labels with the same ends, one at most leaves at a minute, and one at most arrives at a minute
   cross : {u v d a e b i k : ℕ} {p q : Option ℕ} → Entry T outs i u v d a p → Entry T ins k v u e b q → ⊥
   cross x y = omega (arith, G .below x, G .below y)
+
+  pub number-by-dep : {i k u v d a b : ℕ} {p q : Option ℕ} → LabelAt T i u v d a p → LabelAt T k u v d b q → i ≡ k
+  number-by-dep (of-out x) (of-out y) = same-dep x y
+  number-by-dep (of-in x) (of-in y) = same-dep x y
+  number-by-dep (of-out x) (of-in y) = absurd (cross x y)
+  number-by-dep (of-in x) (of-out y) = absurd (cross y x)
 
   pub one-by-dep : {u v d a b : ℕ} {p q : Option ℕ} → Label T u v d a p → Label T u v d b q → (a ≡ b) × (p ≡ q)
   one-by-dep (i, of-out x) (k, of-out y) = let s = one-entry (same-dep x y) x y in (s .2, s .3)

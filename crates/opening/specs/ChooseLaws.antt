@@ -19,15 +19,15 @@ use Rattle.journeys.specs.Service.{Service}
 use Rattle.journeys.specs.Tables.{outs, ins, Tables, Entry, of-out, of-in, Label, GoodTables, JoinAt}
 use Rattle.journeys.specs.Rides as rides
 use Rattle.journeys.specs.Rides.{Opens, both, Chosen}
-use Rattle.journeys.specs.SketchLaws.{entry-at, LabelWith, one-by-dep, one-by-arr}
+use Rattle.journeys.specs.SketchLaws.{entry-at, one-by-dep, one-by-arr}
 use Rattle.journeys.specs.RidesLaws.{Parts, parts}
 use Rattle.tables.specs.File.{tablesOf, labelAt, pivotOf}
 use Rattle.tables.specs.TablesLaws.{pivot-some, tables-stops, good-tables}
 use Rattle.pieces.specs.declared.Moment.{Moment}
 use Rattle.pieces.specs.declared.Moment.the-variants.{Leaving, Arriving}
-use Rattle.pieces.specs.Seek.{Exactly, Past}
+use Rattle.pieces.specs.Seek.{Past}
 use Rattle.pieces.specs.Pieces.{SetAt, FoundLabel, SpanIn}
-use Rattle.pieces.specs.PiecesLaws.{set-bounds, stands-there}
+use Rattle.pieces.specs.PiecesLaws.{set-bounds, stands-there, leaving-at}
 use Rattle.opening.specs.declared.Way.{Way}
 use Rattle.opening.specs.declared.Way.the-variants.{Through, Nowhere}
 use Rattle.opening.specs.OpenLaws.{label-pivot}
@@ -171,18 +171,9 @@ module _ {b : List ℕ} {n u v outFrom outTo inFrom inTo : ℕ} (O : SetAt b n o
 
 -- ---- the stop where the answer is taken apart
 
-label-as : {T : Tables} {u v d : ℕ} {l : kinds.Label} → FoundLabel T u v (Leaving d) l → Label T u v d (l .arr) (pivotOf (l .pivot))
-label-as {T} {u} {v} {d} {l} f = subst (λ e. Label T u v e (l .arr) (pivotOf (l .pivot))) (f .says) (f .label)
-
 module _ {T : Tables} (G : GoodTables T) {u v d a : ℕ} where
-  pub way-label : {l : kinds.Label} → FoundLabel T u v (Leaving d) l → l .arr ≡ a → Goes T u v d a (l .pivot)
-  way-label {l} f e = by-label (subst (λ b. Label T u v d b (pivotOf (l .pivot))) e (label-as f))
-
-  pub other-label : {l : kinds.Label} → FoundLabel T u v (Leaving d) l → (l .arr ≡ a → ⊥) → (q : Option ℕ) → ¬ (Label T u v d a q)
-  other-label f n q k = n (one-by-dep G (label-as f) k .0)
-
-  pub no-label-at : ¬ (LabelWith T u v (Exactly (Leaving d))) → (q : Option ℕ) → ¬ (Label T u v d a q)
-  no-label-at n q k = n (record { dep = d; arr = a; pivot = q; label = k; says = refl })
+  pub way-label : {k : ℕ} {l : kinds.Label} → FoundLabel T u v (Leaving d) k l → l .arr ≡ a → Goes T u v d a (l .pivot)
+  way-label {k} {l} f e = by-label (subst (λ b. Label T u v d b (pivotOf (l .pivot))) e (k, leaving-at f))
 
   pub way-hub : ((q : Option ℕ) → ¬ (Label T u v d a q)) → (r : Way) → HubAs T u v d a r → WayAs T u v d a r
   way-hub n (Through h) x = by-hub n x

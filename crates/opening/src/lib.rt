@@ -165,7 +165,7 @@ fn way_of(tables: &[u8], n: u16, starts: &[u16], u: u16, v: u16, d: u16, a: u16)
 {
     let single = pieces::find(tables, n, starts, u, v, Moment::Leaving(d));
     match single {
-        Sought::Found(l) => {
+        Sought::Found(_, l) => {
             if l.arr == a {
                 return Way::Through(l.pivot);
             }

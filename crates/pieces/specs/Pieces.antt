@@ -5,7 +5,7 @@ use mathlib.Core.List.{List}
 use mathlib.Core.Option.{Option}
 use Rattle.kinds.specs.Limits.{noPivot}
 use Rattle.kinds.specs.declared.Label as kinds
-use Rattle.journeys.specs.Tables.{Side, Tables, Entry, Label}
+use Rattle.journeys.specs.Tables.{Side, Tables, Entry, LabelAt, Label}
 use Rattle.journeys.specs.Check.{Halves}
 use Rattle.journeys.specs.SketchLaws.{LabelWith}
 use Rattle.tables.specs.File.{pivotOf, tablesOf}
@@ -28,26 +28,25 @@ pub record SetAt (b : List ℕ) (n : ℕ) (side : Side) (s from to : ℕ) : Type
   pub start : tablesOf b .start side s ≡ from
   pub end : tablesOf b .end side s ≡ to
 
--- a label of the owner s on this side with this hub and this moment, or that there is none
-pub record FoundIn (T : Tables) (side : Side) (s h : ℕ) (m : Moment) (l : kinds.Label) : Type 0 where
-  pub number : ℕ
-  pub entry : Entry T side number s h (l .dep) (l .arr) (pivotOf (l .pivot))
+-- label k, one of the owner s on this side with this hub and this moment, or that there is none
+pub record FoundIn (T : Tables) (side : Side) (s h : ℕ) (m : Moment) (k : ℕ) (l : kinds.Label) : Type 0 where
+  pub entry : Entry T side k s h (l .dep) (l .arr) (pivotOf (l .pivot))
   pub hub : l .hub ≡ h
   pub says : Exactly m (l .dep) (l .arr)
 
 abbrev pub SoughtIn : Tables → Side → ℕ → ℕ → Moment → Sought → Type 0
-SoughtIn T side s hub m (Found l) = FoundIn T side s hub m l
+SoughtIn T side s hub m (Found k l) = FoundIn T side s hub m k l
 SoughtIn T side s hub m Missing = (k d a : ℕ) (p : Option ℕ) → Entry T side k s hub d a p → ¬ (Exactly m d a)
 
 -- "the label u to p that leaves at the same minute", "the label p to v that arrives at the same minute", or that there is none.
 -- (Its hub is the end with the lower number.)
-pub record FoundLabel (T : Tables) (u v : ℕ) (m : Moment) (l : kinds.Label) : Type 0 where
-  pub label : Label T u v (l .dep) (l .arr) (pivotOf (l .pivot))
+pub record FoundLabel (T : Tables) (u v : ℕ) (m : Moment) (k : ℕ) (l : kinds.Label) : Type 0 where
+  pub label : LabelAt T k u v (l .dep) (l .arr) (pivotOf (l .pivot))
   pub hub : l .hub ≡ min u v
   pub says : Exactly m (l .dep) (l .arr)
 
 abbrev pub SoughtAs : Tables → ℕ → ℕ → Moment → Sought → Type 0
-SoughtAs T u v m (Found l) = FoundLabel T u v m l
+SoughtAs T u v m (Found k l) = FoundLabel T u v m k l
 SoughtAs T u v m Missing = ¬ (LabelWith T u v (Exactly m))
 
 -- the span's stops are stops, and so is its pivot if it has one

@@ -14,9 +14,9 @@ use Rattle.loops.specs.Tells.{Tells}
 use Rattle.loops.specs.TellsLaws.{told-true, told-false}
 use Rattle.kinds.specs.Limits.{noPivot}
 use Rattle.kinds.specs.declared.Label as kinds
-use Rattle.journeys.specs.Tables.{Side, outs, ins, Tables, Entry, of-out, of-in, Label, GoodTables}
+use Rattle.journeys.specs.Tables.{Side, outs, ins, Tables, Entry, LabelAt, of-out, of-in, Label, GoodTables}
 use Rattle.journeys.specs.Check.{Halves}
-use Rattle.journeys.specs.SketchLaws.{entry-at, LabelWith, one-by-dep, one-by-arr}
+use Rattle.journeys.specs.SketchLaws.{entry-at, LabelWith, number-by-dep, one-by-dep, one-by-arr}
 use Rattle.tables.specs.File.{labelsOf, labelAt, pivotOf, tablesOf}
 use Rattle.tables.specs.TablesLaws.{pivot-none, pivot-some, tables-stops, tables-within, good-tables}
 use Rattle.ground.specs.Ground.{Ready}
@@ -108,10 +108,9 @@ module _ {b : List ℕ} {n : ℕ} {side : Side} {s from to hub : ℕ} (m : Momen
     unfolding tablesOf
     not-there f = none-there (good-tables (A .file)) m in-set (λ lt h q. told-false t f (subst (λ x. AtLabel x hub m) (sym e) (h, q)))
 
-    pub there : k < to → r ≡ true → FoundIn (tablesOf b) side s hub m l
+    pub there : k < to → r ≡ true → FoundIn (tablesOf b) side s hub m k l
     unfolding tablesOf
     there lt f = record {
-      number = k;
       entry = rw e (record { owner = omega (arith, A .owner, A .file .room .contents .stops); low = in-set .passed .low; high = omega (arith, A .end); hub = ap (λ x. x .hub) (sym e) ∙ told-true t f .0; dep = refl; arr = refl; pivot = refl });
       hub = told-true t f .0;
       says = told-true t f .1;
@@ -133,7 +132,7 @@ set-bounds {b} {side = side} {s} A = (omega (arith, A .start, A .end, set-rising
 module _ {T : Tables} (G : GoodTables T) {u v : ℕ} (m : Moment) where
   -- a label u to v stands among the out-labels of u where v is the lower number, else among the in-labels of v
   pub of-outs : (r : Sought) → v < u → SoughtIn T outs u v m r → SoughtAs T u v m r
-  of-outs (Found l) lt x = record { label = (x .number, of-out (x .entry)); hub = x .hub ∙ sym (min-eq-right (le-of-lt lt)); says = x .says }
+  of-outs (Found k l) lt x = record { label = of-out (x .entry); hub = x .hub ∙ sym (min-eq-right (le-of-lt lt)); says = x .says }
   of-outs Missing lt n = λ w. none (w .label) (w .says)
     where
       none : {d a : ℕ} {p : Option ℕ} → Label T u v d a p → ¬ (Exactly m d a)
@@ -141,12 +140,28 @@ module _ {T : Tables} (G : GoodTables T) {u v : ℕ} (m : Moment) where
       none (k, of-in e) = λ _. omega (arith, G .below e)
 
   pub of-ins : (r : Sought) → u ≤ v → SoughtIn T ins v u m r → SoughtAs T u v m r
-  of-ins (Found l) le x = record { label = (x .number, of-in (x .entry)); hub = x .hub ∙ sym (min-eq-left le); says = x .says }
+  of-ins (Found k l) le x = record { label = of-in (x .entry); hub = x .hub ∙ sym (min-eq-left le); says = x .says }
   of-ins Missing le n = λ w. none (w .label) (w .says)
     where
       none : {d a : ℕ} {p : Option ℕ} → Label T u v d a p → ¬ (Exactly m d a)
       none {d} {a} {p} (k, of-in e) = n k d a p e
       none (k, of-out e) = λ _. omega (arith, G .below e)
+
+-- ---- the label that was found or not, by the minute that was looked for
+
+module _ {T : Tables} {u v : ℕ} {k : ℕ} {l : kinds.Label} where
+  pub leaving-at : {d : ℕ} → FoundLabel T u v (Leaving d) k l → LabelAt T k u v d (l .arr) (pivotOf (l .pivot))
+  leaving-at f = subst (λ e. LabelAt T k u v e (l .arr) (pivotOf (l .pivot))) (f .says) (f .label)
+
+  pub arriving-at : {a : ℕ} → FoundLabel T u v (Arriving a) k l → LabelAt T k u v (l .dep) a (pivotOf (l .pivot))
+  arriving-at f = subst (λ e. LabelAt T k u v (l .dep) e (pivotOf (l .pivot))) (f .says) (f .label)
+
+module _ {T : Tables} {u v d a : ℕ} where
+  pub other-label : GoodTables T → {k : ℕ} {l : kinds.Label} → FoundLabel T u v (Leaving d) k l → (l .arr ≡ a → ⊥) → (q : Option ℕ) → ¬ (Label T u v d a q)
+  other-label G {k} f n q x = n (one-by-dep G (k, leaving-at f) x .0)
+
+  pub no-label-at : ¬ (LabelWith T u v (Exactly (Leaving d))) → (q : Option ℕ) → ¬ (Label T u v d a q)
+  no-label-at n q x = n (record { dep = d; arr = a; pivot = q; label = x; says = refl })
 
 -- ---- the two halves
 
@@ -157,12 +172,12 @@ module _ {T : Tables} (s : Span) where
   pub no-second : ¬ (LabelWith T (s .pivot) (s .to) (Exactly (Arriving (s .arr)))) → ¬ (Halves T (s .from) (s .pivot) (s .to) (s .dep) (s .arr))
   no-second n h = n (record { dep = h .start; arr = s .arr; pivot = h .pivot₂; label = h .second; says = refl })
 
-  module _ {x y : kinds.Label} (F : FoundLabel T (s .from) (s .pivot) (Leaving (s .dep)) x) (L : FoundLabel T (s .pivot) (s .to) (Arriving (s .arr)) y) where
+  module _ {i k : ℕ} {x y : kinds.Label} (F : FoundLabel T (s .from) (s .pivot) (Leaving (s .dep)) i x) (L : FoundLabel T (s .pivot) (s .to) (Arriving (s .arr)) k y) where
     first-of : Label T (s .from) (s .pivot) (s .dep) (x .arr) (pivotOf (x .pivot))
-    first-of = subst (λ d. Label T (s .from) (s .pivot) d (x .arr) (pivotOf (x .pivot))) (F .says) (F .label)
+    first-of = (i, leaving-at F)
 
     second-of : Label T (s .pivot) (s .to) (y .dep) (s .arr) (pivotOf (y .pivot))
-    second-of = subst (λ a. Label T (s .pivot) (s .to) (y .dep) a (pivotOf (y .pivot))) (L .says) (L .label)
+    second-of = (k, arriving-at L)
 
     pub met : x .arr ≤ y .dep → MeetAt T s (record { mid = x .arr; first = x .pivot; start = y .dep; second = y .pivot })
     met h = record { first = first-of; second = second-of; meets = h }
@@ -193,18 +208,20 @@ same-fields : {a b c d e f g h : ℕ} → a ≡ e → b ≡ f → c ≡ g → d 
 same-fields e f g h = cc
 
 module _ {T : Tables} (G : GoodTables T) where
-  same-found : {u v : ℕ} (m : Moment) {x y : kinds.Label} → FoundLabel T u v m x → FoundLabel T u v m y → x ≡ y
-  same-found {u} {v} (Leaving t) {x} {y} f g =
-      let s = one-by-dep G (subst (λ d. Label T u v d (x .arr) (pivotOf (x .pivot))) (f .says) (f .label)) (subst (λ d. Label T u v d (y .arr) (pivotOf (y .pivot))) (g .says) (g .label)) in
-      same-label (f .hub ∙ sym (g .hub)) (f .says ∙ sym (g .says)) (s .0) (pivot-one (x .pivot) (y .pivot) (s .1))
-  same-found {u} {v} (Arriving t) {x} {y} f g =
-      let s = one-by-arr G (subst (λ a. Label T u v (x .dep) a (pivotOf (x .pivot))) (f .says) (f .label)) (subst (λ a. Label T u v (y .dep) a (pivotOf (y .pivot))) (g .says) (g .label)) in
-      same-label (f .hub ∙ sym (g .hub)) (s .0) (f .says ∙ sym (g .says)) (pivot-one (x .pivot) (y .pivot) (s .1))
+  same-found : {u v i k : ℕ} (m : Moment) {x y : kinds.Label} → FoundLabel T u v m i x → FoundLabel T u v m k y → (i ≡ k) × (x ≡ y)
+  same-found {i = i} {k} (Leaving t) {x} {y} f g =
+      let s = one-by-dep G (i, leaving-at f) (k, leaving-at g) in
+      (number-by-dep G (leaving-at f) (leaving-at g), same-label (f .hub ∙ sym (g .hub)) (f .says ∙ sym (g .says)) (s .0) (pivot-one (x .pivot) (y .pivot) (s .1)))
+  same-found {u} {v} {i} {k} (Arriving t) {x} {y} f g =
+      let s = one-by-arr G (i, arriving-at f) (k, arriving-at g) in (
+        number-by-dep G (arriving-at f) (subst (λ d. LabelAt T k u v d t (pivotOf (y .pivot))) (sym (s .0)) (arriving-at g)),
+        same-label (f .hub ∙ sym (g .hub)) (s .0) (f .says ∙ sym (g .says)) (pivot-one (x .pivot) (y .pivot) (s .1)),
+      )
 
   pub sought-one : (u v : ℕ) (m : Moment) (r s : Sought) → SoughtAs T u v m r → SoughtAs T u v m s → r ≡ s
-  sought-one u v m (Found x) (Found y) f g = ap Found (same-found m f g)
-  sought-one u v m (Found x) Missing f n = absurd (n (record { dep = x .dep; arr = x .arr; pivot = pivotOf (x .pivot); label = f .label; says = f .says }))
-  sought-one u v m Missing (Found y) n g = absurd (n (record { dep = y .dep; arr = y .arr; pivot = pivotOf (y .pivot); label = g .label; says = g .says }))
+  sought-one u v m (Found i x) (Found k y) f g = let e = same-found m f g in ap (λ j. Found j x) (e .0) ∙ ap (Found k) (e .1)
+  sought-one u v m (Found i x) Missing f n = absurd (n (record { dep = x .dep; arr = x .arr; pivot = pivotOf (x .pivot); label = (i, f .label); says = f .says }))
+  sought-one u v m Missing (Found k y) n g = absurd (n (record { dep = y .dep; arr = y .arr; pivot = pivotOf (y .pivot); label = (k, g .label); says = g .says }))
   sought-one u v m Missing Missing n k = refl
 
   met-halves : (s : Span) (h : Meeting) → MeetAt T s h → Halves T (s .from) (s .pivot) (s .to) (s .dep) (s .arr)

@@ -29,9 +29,9 @@ pub enum Moment {
     Arriving(u16),
 }
 
-// A label that was looked for.
+// A label that was looked for: its number and what it says.
 pub enum Sought {
-    Found(Label),
+    Found(u16, Label),
     Missing,
 }
 
@@ -127,7 +127,7 @@ fn find_in(tables: &[u8], n: u16, from: usize, to: usize, hub: u16, m: Moment) -
     }
     let l = tables::label_at(tables, n, k);
     if is_at(l, hub, m) {
-        return Sought::Found(l);
+        return Sought::Found(k as u16, l);
     }
     Sought::Missing
 }
@@ -161,11 +161,11 @@ pub fn halves(tables: &[u8], n: u16, starts: &[u16], s: Span) -> Parted
     let first = find(tables, n, starts, s.from, s.pivot, Moment::Leaving(s.dep));
     match first {
         Sought::Missing => Parted::Missing,
-        Sought::Found(x) => {
+        Sought::Found(_, x) => {
             let second = find(tables, n, starts, s.pivot, s.to, Moment::Arriving(s.arr));
             match second {
                 Sought::Missing => Parted::Missing,
-                Sought::Found(y) => {
+                Sought::Found(_, y) => {
                     if y.dep < x.arr {
                         return Parted::Missing;
                     }

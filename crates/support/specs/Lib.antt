@@ -1,2 +1,4 @@
 pub mod Spans
 pub mod SpanLaws
+pub mod Marks
+pub mod MarkLaws

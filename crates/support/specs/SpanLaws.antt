@@ -7,16 +7,14 @@ use mathlib.Core.Option.{Option}
 use mathlib.Core.Bool.{Bool, true, false}
 use native.Mathlib.Omega.{arith}
 use native.Mathlib.Decide.{decLt, ℕ-discrete}
-use lib.Dec.{ltb}
-use borrow.Author.Tests.{eq-eqb, ne-eqb, ltb-true, ltb-false}
-use Rattle.loops.specs.First.{FirstAt}
+use borrow.Author.Tests.{eq-eqb, ne-eqb}
 use Rattle.loops.specs.Tells.{Tells}
 use Rattle.loops.specs.TellsLaws.{tells-yes, tells-no, tells-as}
 use Rattle.kinds.specs.Limits.{noPivot}
 use Rattle.kinds.specs.KindsLaws.{GoodPivot}
 use Rattle.kinds.specs.declared.Label.{Label}
 use Rattle.journeys.specs.Service.{Service}
-use Rattle.journeys.specs.Tables.{Side, outs, ins, Tables, Entry, LabelAt, of-out, of-in}
+use Rattle.journeys.specs.Tables.{Side, outs, ins, Tables, Entry, of-out, of-in}
 use Rattle.journeys.specs.Check.{Halves, SupportedAt}
 use Rattle.journeys.specs.SketchLaws.{entry-at}
 use Rattle.tables.specs.File.{startOf, endOf, setOf, ownerOf, labelAt, pivotOf, tablesOf}
@@ -26,12 +24,13 @@ use Rattle.tables.specs.TablesLaws.{tables-stops, tables-start, tables-end, ent
 use Rattle.timetable.specs.Numbers.{serviceOf}
 use Rattle.pieces.specs.declared.Span.{Span}
 use Rattle.pieces.specs.declared.Meeting.{Meeting}
-use Rattle.pieces.specs.Pieces.{SpanIn, MeetAt, RunIs}
-use Rattle.support.specs.Spans.{spanOf, SpanSupported}
+use Rattle.pieces.specs.Pieces.{SpanIn, MeetAt}
+use Rattle.support.specs.Spans.{spanOf, SpanAt, SpanSupported}
+use Rattle.support.specs.Marks.{RunAmong}
 
 -- ---- the label at a number of a set
 
-same-set : (b : List ℕ) (i j k : ℕ) → startOf b i ≤ k → k < endOf b i → startOf b j ≤ k → k < endOf b j → i ≡ j
+pub same-set : (b : List ℕ) (i j k : ℕ) → startOf b i ≤ k → k < endOf b i → startOf b j ≤ k → k < endOf b j → i ≡ j
 same-set b i j k h₁ h₂ h₃ h₄ = go (decLt i j) (decLt j i)
   where
     go : Dec (i < j) → Dec (j < i) → i ≡ j
@@ -58,11 +57,11 @@ module _ {b : List ℕ} {n : ℕ} (g : GoodFile b n) {set k : ℕ} (real : set <
     unfolding spanOf
     by-in e = ew ∙ rw (ne-eqb (set % 2) 0 e, el)
 
-    pub span-label : LabelAt (tablesOf b) k (w .from) (w .to) (w .dep) (w .arr) (pivotOf (w .pivot))
+    pub span-label : SpanAt (tablesOf b) k w
     unfolding tablesOf
     span-label = go (ℕ-discrete (set % 2) 0)
       where
-        go : Dec (set % 2 ≡ 0) → LabelAt (tablesOf b) k (w .from) (w .to) (w .dep) (w .arr) (pivotOf (w .pivot))
+        go : Dec (set % 2 ≡ 0) → SpanAt (tablesOf b) k w
         go (yes e) = rw (by-out e) (of-out (own-entry outs (omega arith)))
         go (no e) = rw (by-in e) (of-in (own-entry ins (omega arith)))
 
@@ -98,16 +97,13 @@ module _ {b : List ℕ} {n : ℕ} (g : GoodFile b n) {set k : ℕ} (real : set <
 
 -- ---- support, with a pivot and without
 
--- the first run with its ends and minutes stands below the number of runs
-pub by-run : (stops : ℕ) {count : ℕ} (list : List ℕ) (T : Tables) (w : Span) {i : ℕ} → w .pivot ≡ noPivot → FirstAt (RunIs list w) 0 count i →
-    Tells (SpanSupported (serviceOf stops count list) T w) (ltb i count)
+pub by-run : (stops : ℕ) {count : ℕ} (list : List ℕ) (T : Tables) (w : Span) {r : Bool} → w .pivot ≡ noPivot → Tells (RunAmong list count w) r →
+    Tells (SpanSupported (serviceOf stops count list) T w) r
 unfolding serviceOf
-by-run stops {count} list T w {i} e F = rw (eq-eqb (w .pivot) noPivot e) (record {
-  holds = λ q. let r = F .here (ltb-true i count q) in (i, record { below = ltb-true i count q; forced = refl; goes = r .goes; ends = r .ends; leaves = r .leaves; arrives = r .arrives });
-  fails = λ q s.
-      let r = s .1 in
-      F .passed .none (s .0) (omega arith) (omega (arith, ltb-false i count q, r .below)) (record { goes = r .goes; ends = r .ends; leaves = r .leaves; arrives = r .arrives });
-})
+by-run stops list T w e t = rw (eq-eqb (w .pivot) noPivot e) (tells-as (
+  (λ x. (x .0, record { below = x .1; forced = refl; goes = x .2 .goes; ends = x .2 .ends; leaves = x .2 .leaves; arrives = x .2 .arrives })),
+  (λ x. (x .0, x .1 .below, record { goes = x .1 .goes; ends = x .1 .ends; leaves = x .1 .leaves; arrives = x .1 .arrives })),
+) t)
 
 module _ (S : Service) (T : Tables) (w : Span) (e : w .pivot ≡ noPivot → ⊥) where
   pub by-halves : (h : Meeting) → MeetAt T w h → Tells (SpanSupported S T w) true

@@ -14,7 +14,8 @@ ghost use Rattle.kinds.specs.Limits.{mostStops};
 ghost use Rattle.journeys.specs.Tables.{outs, ins};
 ghost use Rattle.tables.specs.File.{tablesOf};
 ghost use Rattle.timetable.specs.Numbers.{serviceOf, GoodNumbers};
-ghost use Rattle.ground.specs.Ground.{Ready, Ground};
+ghost use Rattle.ground.specs.Ground.{Ready};
+ghost use Rattle.support.specs.Marks.{Marked};
 ghost use Rattle.verdict.specs.Early.{Reached, Arrival};
 ghost use Rattle.verdict.specs.Steps.{relaxed, soonerOf};
 ghost use Rattle.verdict.specs.Gaps.{NoGapOf, Compared, GapIn};
@@ -168,7 +169,7 @@ fn first_gap(tables: &[u8], n: u16, starts: &[u16], runs: &[u32], count: usize) 
 
 // Labels first, then runs and stops.
 fn compare(tables: &[u8], n: u16, room: &[u16], runs: &[u32], count: usize) -> Verdict
-    requires { ⌜ Ground (now tables) n (now room) (now runs) count ⌝ }
+    requires { ⌜ Marked (now tables) n (now room) (now runs) count ⌝ }
     ensures { λ r. ⌜ Outcome (serviceOf n count (now (runs .entry))) (tablesOf (now (tables .entry))) r ⌝ }
 {
     let k = support::first_unsupported(tables, n, room, runs, count);
@@ -195,7 +196,7 @@ fn answer(tables: &[u8], stops: u32, run_count: u32, runs: &[u32], work: &mut [u
         TablesRead::No(x) => Verdict::No(x),
         TablesRead::Good(n) => {
             let count = run_count as usize;
-            ground::prepare(tables, n, runs, count, work);
+            support::mark_all(tables, n, runs, count, work);
             compare(tables, n, work, runs, count)
         }
     }

@@ -298,18 +298,14 @@ pub fn star(count: u32) -> Sets {
     sets
 }
 
-/// Tables with `count` labels between any two of 255 stops, all made for one
-/// bucket of the library's lookup of runs, which adds 1,129 for each stop's
-/// number to the departure, modulo 2,880.
-pub fn one_bucket(count: u32) -> Sets {
+/// Tables with `count` labels between any two of 255 stops, all of which leave
+/// at one minute.
+pub fn one_minute(count: u32) -> Sets {
     let mut sets = Sets::new(255);
     for i in 0..count {
         let from = i % 255;
         let to = (from + 1 + i / 255) % 255;
-        let dep = (1 + from * (2_880 - 1_129)) % 2_880;
-        if dep < 2_700 {
-            sets.add(from, to, dep, dep + 1 + i % 100, NO_PIVOT);
-        }
+        sets.add(from, to, 600, 601 + i % 100, NO_PIVOT);
     }
     sets.sort();
     sets

@@ -51,7 +51,7 @@ same-length c = search needs
 returns : tie.Need-returns
 unfolding withRun
 returns c =
-    rw (c .before .bucket-of .ensures .0 ∙ ap (λ r. bucketOf (r .from) (r .dep)) (c .before .before .run-at .ensures))
+    rw (c .before .bucket-of .ensures .0 ∙ ap (λ r. bucketOf (r .dep)) (c .before .before .run-at .ensures))
 
 pub add-spec : {M : Type 1} → statement M
 add-spec =

@@ -1,5 +1,6 @@
 use Rattle.tables.specs.TablesLaws.{good-tables}
-use Rattle.opening.specs.ChooseLaws.{way-label, other-label, no-label-at, way-hub}
+use Rattle.opening.specs.ChooseLaws.{way-label, way-hub}
+use Rattle.pieces.specs.PiecesLaws.{other-label, no-label-at}
 use borrow.Author.Needs.{needs}
 use Rattle.opening.proofs.way_of.Statement.{statement}
 use Rattle.opening.proofs.way_of.Tie as tie
@@ -43,7 +44,7 @@ returns-3 c =
     let f = c .before .before .before in
     let s = f .before .before .before in
     let G = good-tables (s .pre .0 .file) in
-    way-hub G (no-label-at G (rw (c .before .enum-told .given .1) at (f .find .ensures))) (c .lowest-hub2 .result) (c .lowest-hub2 .ensures)
+    way-hub G (no-label-at (rw (c .before .enum-told .given .1) at (f .find .ensures))) (c .lowest-hub2 .result) (c .lowest-hub2 .ensures)
 
 pub way-of-spec : {M : Type 1} → statement M
 way-of-spec =

@@ -1,4 +1,5 @@
 use Rattle.pieces.specs.PiecesLaws.{past-end, there, not-there}
+use native.Mathlib.Omega.{arith}
 use borrow.Author.Needs.{needs}
 use Rattle.pieces.proofs.find_in.Statement.{statement}
 use Rattle.pieces.proofs.find_in.Tie as tie
@@ -22,6 +23,12 @@ label-at-requires c κs = search needs
 is-at-requires : tie.Need-is-at-requires
 is-at-requires c κs = search needs
 
+cast-t11 : tie.Need-cast-t11
+cast-t11 c =
+    let i = c .before .before .before in
+    let s = i .before .before .before in
+    omega (arith, i .if1 .left, s .pre .1 .1, s .pre .0 .few-labels)
+
 returns-2 : tie.Need-returns-2
 returns-2 c =
     let r = c .before .before in
@@ -36,4 +43,4 @@ returns-3 c =
 
 pub find-in-spec : {M : Type 1} → statement M
 find-in-spec =
-    tie.close (tie.spec place-in-requires returns label-at-requires is-at-requires returns-2 returns-3)
+    tie.close (tie.spec place-in-requires returns label-at-requires is-at-requires cast-t11 returns-2 returns-3)

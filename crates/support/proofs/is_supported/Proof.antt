@@ -1,20 +1,24 @@
+use native.Mathlib.Omega.{arith}
 use Rattle.support.specs.SpanLaws.{by-run, by-halves, no-halves}
 use borrow.Author.Needs.{needs}
 use Rattle.support.proofs.is_supported.Statement.{statement}
 use Rattle.support.proofs.is_supported.Tie as tie
 use Rattle.support.proofs.is_supported.Reads as reads
 use Rattle.support.proofs.is_supported.Lts as lts
-use Rattle.pieces.proofs.find_run.Reads as find-run-reads
+use Rattle.support.proofs.has_run.Reads as has-run-reads
 use Rattle.pieces.proofs.halves.Reads as halves-reads
 
-find-run-requires : tie.Need-find-run-requires
-find-run-requires c κs = search needs
+has-run-requires : tie.Need-has-run-requires
+has-run-requires c κs =
+    let s = c .before .before .before .before .before in
+    let M = s .pre .0 in
+    ((_, M .numbers), (omega (arith, s .pre .1 .0, M .long), M .notes (s .args .k) (s .args .s) (s .pre .1 .1 .1)))
 
 returns : tie.Need-returns
 returns c =
     let f = c .before in
     let s = f .before .before .before .before .before in
-    by-run _ (s .args .runs .now) _ (s .args .s) (f .if1 .taken) (c .find-run .ensures)
+    by-run _ (s .args .runs .now) _ (s .args .s) (f .if1 .taken) (c .has-run .ensures)
 
 halves-requires : tie.Need-halves-requires
 halves-requires c κs = search needs
@@ -40,4 +44,4 @@ returns-3 c =
 pub is-supported-spec : {M : Type 1} → statement M
 is-supported-spec =
     tie.close
-    (tie.spec find-run-requires returns halves-requires enum-told enum-told-2 returns-2 returns-3)
+    (tie.spec has-run-requires returns halves-requires enum-told enum-told-2 returns-2 returns-3)

@@ -1,6 +1,6 @@
 use native.Mathlib.Omega.{arith}
 use Rattle.tables.specs.FileLaws.{set-within}
-use Rattle.support.specs.SpanLaws.{span-tells, span-in}
+use Rattle.support.specs.SpanLaws.{span-label, span-tells, span-in}
 use borrow.Author.Needs.{needs}
 use Rattle.support.proofs.supported_at.Statement.{statement}
 use Rattle.support.proofs.supported_at.Tie as tie
@@ -22,7 +22,10 @@ is-supported-requires : tie.Need-is-supported-requires
 is-supported-requires c κs =
     let p = c .before .before .before .before .before .pre in
     let w = p .1 in
-    (p .0, span-in (p .0 .ready .file) (w .0) (w .1) (w .2) (c .before .label-at .ensures) (c .span-of .ensures))
+    let g = p .0 .ready .file in
+    let e = c .before .label-at .ensures in
+    let f = c .span-of .ensures in
+    (p .0, (omega (arith, set-within {set = c .before .before .before .before .before .args .set} (g .room .contents) (w .0), w .2, g .room .few-labels), (span-in g (w .0) (w .1) (w .2) e f, span-label g (w .0) (w .1) (w .2) e f)))
 
 returns : tie.Need-returns
 returns c =

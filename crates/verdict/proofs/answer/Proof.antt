@@ -10,7 +10,7 @@ use Rattle.verdict.proofs.answer.Statement.{statement}
 use Rattle.verdict.proofs.answer.Tie as tie
 use Rattle.verdict.proofs.answer.Reads as reads
 use Rattle.verdict.proofs.answer.Lts as lts
-use Rattle.ground.proofs.prepare.Reads as prepare-reads
+use Rattle.support.proofs.mark_all.Reads as mark-all-reads
 use Rattle.verdict.proofs.compare.Reads as compare-reads
 use Rattle.ground.proofs.judge.Reads as judge-reads
 
@@ -29,14 +29,14 @@ enum-known-judged c = search needs
 enum-known-judged-2 : tie.Need-enum-known-judged-2
 enum-known-judged-2 c = search needs
 
-prepare-requires : tie.Need-prepare-requires
-prepare-requires c κs =
+mark-all-requires : tie.Need-mark-all-requires
+mark-all-requires c κs =
     let g = good (c .before .before) in
     (g .file, (g .numbers, g .room))
 
 compare-requires : tie.Need-compare-requires
 compare-requires c κs =
-    c .before .before .before .prepare .ensures .0
+    c .before .before .before .mark-all .ensures
 
 returns : tie.Need-returns
 returns c =
@@ -60,7 +60,7 @@ answer-spec =
     judge-requires
     enum-known-judged
     enum-known-judged-2
-    prepare-requires
+    mark-all-requires
     compare-requires
     returns
     same-length

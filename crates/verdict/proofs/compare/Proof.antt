@@ -45,7 +45,7 @@ returns c =
 first-gap-requires : tie.Need-first-gap-requires
 first-gap-requires c κs =
     let p = c .before .before .before .before .before .before .pre in
-    (p .ready, p .by-departure .numbers)
+    (p .ready, p .numbers)
 
 enum-known-gap : tie.Need-enum-known-gap
 enum-known-gap c = search needs
