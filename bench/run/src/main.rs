@@ -185,6 +185,9 @@ fn checks(rows: &mut Vec<Row>) {
     inputs.push(("4,096 labels in a star, 4,096 runs".into(), bytes, day));
     let (bytes, day) = with_runs(tables::one_minute(4_096));
     inputs.push(("4,096 labels at one minute, 4,096 runs".into(), bytes, day));
+    let (bytes, mut day) = with_runs(tables::one_minute(4_095));
+    day.runs.insert(0, [0, 1, 1_000, 1_001, 1]);
+    inputs.push(("4,095 labels at one minute, a gap at run 0".into(), bytes, day));
     for (name, bytes, day) in inputs {
         rows.push(check_row(name, bytes, &day));
     }
