@@ -9,6 +9,7 @@ pub mod Found
 pub mod TallyLaws
 pub mod Walk
 pub mod WalkLaws
+pub mod LinkLaws
 pub mod StepLaws
 pub mod Sets
 pub mod SetLaws

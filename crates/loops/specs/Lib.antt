@@ -2,6 +2,8 @@ pub mod Zero
 pub mod ZeroLaws
 pub mod First
 pub mod FirstLaws
+pub mod Halved
+pub mod HalvedLaws
 pub mod Fold
 pub mod FoldLaws
 pub mod Every

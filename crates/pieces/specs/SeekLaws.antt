@@ -1,13 +1,11 @@
--- Laws of the search for a label: what the tests say, and that a stretch can be halved.
-use Prim.Native.Nat.{ℕ, _+_, _-_, _≤_, _<_}
+-- Laws of the search for a label: what the tests say.
+use Prim.Native.Nat.{ℕ, _≤_, _<_}
 use mathlib.Core.Path.{_≡_, sym, subst}
 use mathlib.Core.Logic.{inl, inr}
 use mathlib.Core.Bool.{Bool, true, false}
 use native.Mathlib.Omega.{arith}
-use native.Mathlib.Decide.{decLt}
 use lib.Dec.{leb, eqb}
 use mathlib.Core.List.{List}
-use Rattle.loops.specs.First.{FirstAt}
 use Rattle.loops.specs.Tells.{Tells}
 use Rattle.loops.specs.TellsLaws.{tells-as, told-true, told-false}
 use Rattle.loops.specs.Compares.{tells-le, tells-eq}
@@ -55,44 +53,3 @@ module _ (b : List ℕ) (hub : ℕ) (m : Moment) (k : ℕ) (l : Label) {r : Bool
   pub past-false : Tells (PastLabel l hub m) r → r ≡ false → ¬ (Past (tablesOf b) hub m k)
   unfolding tablesOf
   past-false t f p = told-false t f (subst (λ x. PastLabel x hub m) (sym e) p)
-
--- ---- halving: of what rises, the first number is found by asking in the middle
-
--- the stretch from `low` to `high` of from..to is left: the number before it does not have P, the number behind it has
-pub record Halved (P : ℕ → Type 0) (from to low high : ℕ) : Type 0 where
-  pub least : from ≤ low
-  pub rising : low ≤ high
-  pub most : high ≤ to
-  pub before : from < low → ¬ (P (low - 1))
-  pub behind : high < to → P high
-
-module _ {P : ℕ → Type 0} {from to : ℕ} where
-  pub halved-begin : from ≤ to → Halved P from to from to
-  halved-begin h = record { least = omega arith; rising = h; most = omega arith; before = λ lt. absurd (omega arith); behind = λ lt. absurd (omega arith) }
-
-  module _ {low high : ℕ} (H : Halved P from to low high) where
-    pub halved-low : {mid : ℕ} → low ≤ mid → mid < high → P mid → Halved P from to low mid
-    halved-low le lt p = record { least = H .least; rising = le; most = omega (arith, H .most); before = H .before; behind = λ _. p }
-
-    pub halved-high : {mid : ℕ} → low ≤ mid → mid < high → ¬ (P mid) → Halved P from to (mid + 1) high
-    halved-high {mid} le lt n = record {
-      least = omega (arith, H .least);
-      rising = omega arith;
-      most = H .most;
-      before = λ _ p. n (subst P (omega arith) p);
-      behind = H .behind;
-    }
-
-    -- what has P is followed by what has P
-    pub halved-end : high ≤ low → ((i k : ℕ) → from ≤ i → i < k → k < to → P i → P k) → FirstAt P from to low
-    halved-end ge up = record {
-      passed = record { low = H .least; none = none′ };
-      high = omega (arith, H .rising, H .most);
-      here = λ lt. subst P (omega (arith, H .rising)) (H .behind (omega (arith, H .rising)));
-    }
-      where
-        none′ : (k : ℕ) → from ≤ k → k < low → P k → ⊥
-        none′ k le lt p = elim (decLt k (low - 1)) [
-          | yes l ↦ H .before (omega arith) (up k (low - 1) le l (omega (arith, H .rising, H .most)) p)
-          | no l ↦ H .before (omega arith) (subst P (omega arith) p)
-        ]

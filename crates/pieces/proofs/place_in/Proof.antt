@@ -1,8 +1,10 @@
 use borrow.Author.Needs.{needs}
 use Prim.Native.Nat.{_-_}
+use Rattle.loops.specs.Halved.{Halved}
+use Rattle.loops.specs.HalvedLaws.{halved-begin, halved-low, halved-high, halved-end}
 use Rattle.tables.specs.File.{tablesOf}
 use Rattle.pieces.specs.Seek.{Past}
-use Rattle.pieces.specs.SeekLaws.{past-true, past-false, Halved, halved-begin, halved-low, halved-high, halved-end}
+use Rattle.pieces.specs.SeekLaws.{past-true, past-false}
 use Rattle.pieces.specs.PiecesLaws.{set-rises}
 use Rattle.pieces.proofs.place_in.Statement.{statement}
 use Rattle.pieces.proofs.place_in.Tie as tie
