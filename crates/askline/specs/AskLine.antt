@@ -10,7 +10,6 @@ use Rattle.words.specs.declared.NumberRead.{NumberRead}
 use Rattle.words.specs.declared.NumberRead.the-variants as number
 use Rattle.lookup.specs.Lookup.{stopNamed}
 use Rattle.lines.specs.declared.Field.{Field}
-use Rattle.asks.specs.declared.Wanted.{Wanted}
 use Rattle.asks.specs.declared.Wanted.the-variants as wanted
 use Rattle.askline.specs.declared.Word.{Word}
 use Rattle.askline.specs.declared.Word.the-variants.{Early, Late, Short}

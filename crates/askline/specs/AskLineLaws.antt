@@ -17,7 +17,6 @@ use Rattle.askline.specs.declared.Word.the-variants.{Early, Late, Short}
 use Rattle.askline.specs.declared.GivenRead.{GivenRead}
 use Rattle.askline.specs.declared.GivenRead.the-variants as given
 use Rattle.askline.specs.declared.Shape.{Shape}
-use Rattle.askline.specs.declared.ShapeRead.{ShapeRead}
 use Rattle.askline.specs.declared.ShapeRead.the-variants as shape
 
 -- FROM and TO stand in the input

@@ -13,7 +13,6 @@ use Rattle.journeys.specs.CountLaws.{pairs-one, rule-count-one}
 use Rattle.tables.specs.File.{placeOf, tablesOf}
 use Rattle.tables.specs.GoodLaws.{good-judged}
 use Rattle.tables.specs.OneFile.{AreBytes, SameLabels, one-file}
-use Rattle.counts.specs.Sums.{sum}
 use Rattle.counts.specs.SumLaws.{sum-same}
 use Rattle.counts.specs.Sets.{SetsTo, CountedAll}
 use Rattle.builder.specs.Contents.{Sized}

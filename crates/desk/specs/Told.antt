@@ -13,10 +13,8 @@ use Rattle.tables.specs.Judged.{judgedTables}
 use Rattle.tables.specs.declared.TablesRead.{TablesRead}
 use Rattle.tables.specs.declared.TablesRead.the-variants as tables
 use Rattle.verdict.specs.Verdict.{Checked}
-use Rattle.verdict.specs.declared.Verdict.{Verdict}
 use Rattle.verdict.specs.declared.Verdict.the-variants as verdict
 use Rattle.builder.specs.Build.{buildRoom, BuildOf}
-use Rattle.builder.specs.declared.BuildAnswer.{BuildAnswer}
 use Rattle.builder.specs.declared.BuildAnswer.the-variants as build
 use Rattle.printed.specs.Wrote.{Wrote}
 use Rattle.report.specs.Words.{refusalLine}

@@ -10,7 +10,6 @@ use Rattle.loops.specs.Chain.{past}
 use Rattle.kinds.specs.Limits.{runsRoom, codesRoom, mostStops, mostText}
 use Rattle.kinds.specs.declared.Refusal.{Refusal}
 use Rattle.reader.specs.declared.Counts.{Counts}
-use Rattle.reader.specs.declared.ReadAnswer.{ReadAnswer}
 use Rattle.reader.specs.declared.ReadAnswer.the-variants as read
 use Rattle.reader.specs.Text.{Sofar, Outcome, whole, bad, readText, answerOf, runsOf, codesOf}
 use Rattle.reader.specs.TextLaws.{GoodRead, text-good}

@@ -9,13 +9,9 @@ use borrow.Author.Tests.{ltb-true, ltb-false, leb-true, leb-false, eqb-true, eqb
 use Rattle.loops.specs.Chain.{past, stays}
 use Rattle.kinds.specs.Limits.{mostStops, mostRuns, noPivot, lastMinute, mostTrip}
 use Rattle.kinds.specs.Kinds.{isStopCount, isRunCount, stopOf, runOf, labelOf}
-use Rattle.kinds.specs.declared.StopRead.{StopRead}
 use Rattle.kinds.specs.declared.StopRead.the-variants as stop
-use Rattle.kinds.specs.declared.MinuteRead.{MinuteRead}
-use Rattle.kinds.specs.declared.MinuteRead.the-variants as minute
 use Rattle.kinds.specs.declared.Stop.{Stop}
 use Rattle.kinds.specs.declared.Run.{Run}
-use Rattle.kinds.specs.declared.RunRead.{RunRead}
 use Rattle.kinds.specs.declared.RunRead.the-variants as run
 use Rattle.kinds.specs.declared.Label.{Label}
 use Rattle.kinds.specs.declared.LabelRead.{LabelRead}

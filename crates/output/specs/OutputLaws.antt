@@ -13,10 +13,8 @@ use Rattle.reader.specs.declared.ReadAnswer.the-variants as read
 use Rattle.reader.specs.Text.{runsOf, codesOf}
 use Rattle.reader.specs.TextLaws.{GoodRead}
 use Rattle.builder.specs.declared.BuildAnswer.{BuildAnswer}
-use Rattle.builder.specs.declared.BuildAnswer.the-variants as build
 use Rattle.builder.specs.Build.{buildRoom, BuildOf}
 use Rattle.builder.specs.BuildLaws.{built-within, build-one}
-use Rattle.askline.specs.declared.Piece.the-variants as piece
 use Rattle.askline.specs.Input.{timetableEnd}
 use Rattle.askline.specs.InputLaws.{timetable-within}
 use Rattle.printed.specs.Printed.{lineRoom}

@@ -12,7 +12,6 @@ use Rattle.loops.specs.Zero.{zeros}
 use Rattle.kinds.specs.Kinds.{isStopCount, isRunCount}
 use Rattle.kinds.specs.Limits.{runNumbers}
 use Rattle.kinds.specs.declared.Refusal.{Refusal}
-use Rattle.journeys.specs.Check as the
 use Rattle.journeys.specs.RuleLaws.{by-rule-accepted}
 use Rattle.tables.specs.declared.TablesRead.the-variants as tables
 use Rattle.tables.specs.File.{placeOf, tablesOf}

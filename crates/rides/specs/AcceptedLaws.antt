@@ -20,7 +20,6 @@ use Rattle.timetable.specs.NumbersLaws.{good-service, service-stops}
 use Rattle.asks.specs.declared.Wanted.{Wanted}
 use Rattle.asks.specs.declared.Asked.{Asked}
 use Rattle.asks.specs.declared.AskRead.the-variants as ask
-use Rattle.asks.specs.declared.Answer.the-variants as answer
 use Rattle.rides.specs.declared.Listed.{Listed}
 use Rattle.rides.specs.declared.RidesAnswer.{RidesAnswer}
 use Rattle.rides.specs.declared.RidesAnswer.the-variants.{At, No}

@@ -1,7 +1,6 @@
 use mathlib.Core.Path.{refl}
 use native.Mathlib.Omega.{arith}
 use Rattle.departures.specs.Departures.{bucketOf}
-use borrow.Author.Needs.{needs}
 use Rattle.departures.proofs.bucket_of.Statement.{statement}
 use Rattle.departures.proofs.bucket_of.Tie as tie
 use Rattle.departures.proofs.bucket_of.Reads as reads

@@ -1,5 +1,5 @@
 use native.Mathlib.Omega.{arith}
-use lib.ListN.{length, length-set}
+use lib.ListN.{length-set}
 use Rattle.printed.specs.DecimalLaws.{decimal-length}
 use Rattle.printed.specs.WroteLaws.{wrote-after}
 use borrow.Author.Needs.{needs}

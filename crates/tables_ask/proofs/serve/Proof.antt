@@ -1,7 +1,6 @@
 use Prim.Native.Nat.{_+_}
 use mathlib.Core.Path.{sym}
 use native.Mathlib.Omega.{arith}
-use lib.ListN.{length}
 use lib.Seq.{length-take-le}
 use Rattle.desk.specs.ToldLaws.{admitted-read, admitted-accepts}
 use Rattle.tables_ask.specs.HeldLaws.{can-answer, still-accepted}
