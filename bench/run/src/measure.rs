@@ -1,4 +1,5 @@
-//! Times: the least of several rounds, ours and plain turn by turn.
+//! Times: the least of several rounds, ours and plain turn by turn, in several
+//! passes over all rows, since a machine can be slow for seconds on end.
 
 use std::hint::black_box;
 use std::time::{Duration, Instant};
@@ -18,6 +19,13 @@ pub struct Row {
 impl Row {
     pub fn ratio(&self) -> Option<f64> {
         self.ours.map(|ours| ours / self.plain)
+    }
+
+    /// The least times of two measurements of one row.
+    pub fn keep_least(&mut self, again: &Row) {
+        assert!(self.entry == again.entry && self.input == again.input);
+        self.plain = self.plain.min(again.plain);
+        self.ours = self.ours.zip(again.ours).map(|(a, b)| a.min(b));
     }
 
     pub fn print(&self) {

@@ -29,8 +29,8 @@ pub fn ratios(rows: &[Row]) -> Vec<(&str, f64, f64)> {
 const HEAD: &str = "# Benchmarks
 
 Ours against `bench/plain`, an unproved Rust implementation with the same answers, refusals and final buffers: the same machine,
-the same bytes and slices, both built for release. Written by `bench/ratios`. A time is the least of seven rounds, ours and plain
-turn by turn; the ratio `ours / plain` is what counts, the target is 1.5.
+the same bytes and slices, both built for release. Written by `bench/ratios`. A time is the least of 28 rounds, ours and plain
+turn by turn, seven in each of four passes over all rows; the ratio `ours / plain` is what counts, the target is 1.5.
 
 Buffers: every call clears what it is lent, ours and plain alike, inside the timed call; nothing is cleared outside it, and the
 buffers are full of the call before. Each input is first compared, the answer and every buffer.
@@ -83,6 +83,13 @@ pub struct Growth {
 }
 
 impl Growth {
+    /// The least times of two measurements of one point.
+    pub fn keep_least(&mut self, again: &Growth) {
+        self.build.keep_least(&again.build);
+        self.by_hubs = self.by_hubs.min(again.by_hubs);
+        self.check.keep_least(&again.check);
+    }
+
     fn millis(&self) -> [f64; 5] {
         let ours = |row: &Row| row.ours.unwrap_or(0.0);
         [ours(&self.build), self.build.plain, self.by_hubs, ours(&self.check), self.check.plain]

@@ -112,6 +112,16 @@ pub fn middling_days<S: Builds>() {
     });
 }
 
+/// Days around 256 runs, which a builder may take for small or for large.
+pub fn few_and_many_runs<S: Builds>() {
+    each_seed("build::few_and_many_runs", 60, |rng| {
+        let (stops, runs) = (rng.between(2, 24), rng.between(253, 260));
+        let shape = days::Shape { stops, runs, first: 0, last: 600, longest: 60 };
+        let day = days::random(rng, shape);
+        built::<S>(rng, &day);
+    });
+}
+
 pub fn any_small_day<S: Builds>() {
     each_seed("build::any_small_day", 1_000, |rng| {
         let day = days::small(rng);

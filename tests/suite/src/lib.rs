@@ -137,6 +137,7 @@ macro_rules! build_tests {
                 ties,
                 there_and_back,
                 middling_days,
+                few_and_many_runs,
                 any_small_day,
                 damaged_numbers,
                 counts_at_the_edges,
