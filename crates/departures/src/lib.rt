@@ -85,7 +85,7 @@ pub fn is_run(run: Run, from: u16, to: u16, dep: u16, arr: u16) -> bool
     true
 }
 
-// The lowest-numbered run with these ends and buckets, or the number of runs.
+// The lowest-numbered run with these ends and minutes, or the number of runs.
 pub fn find(
     runs: &[u32],
     count: usize,
