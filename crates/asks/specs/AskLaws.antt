@@ -21,7 +21,7 @@ use Rattle.asks.specs.declared.MinutesRead.{MinutesRead}
 use Rattle.asks.specs.declared.MinutesRead.the-variants as minutes
 use Rattle.asks.specs.declared.Answer.{Answer}
 use Rattle.asks.specs.declared.Answer.the-variants.{At, No}
-use Rattle.asks.specs.Asks.{ifStop, ifMinutes, minutesRead, askRead, AnswersBy}
+use Rattle.asks.specs.Asks.{ifStop, ifMinutes, minutesRead, askRead, AnswersBy, GoodAsk}
 
 -- the contract determines the answer
 pub answers-one : (P : ℕ → ℕ → ℕ → ℕ → Type 0) (q : AskRead) (x y : Answer) → AnswersBy P q x → AnswersBy P q y → x ≡ y
@@ -30,12 +30,6 @@ answers-one P (ask.Good q) (At j) (At k) e f = let s = best-one (q .criterion) e
 answers-one P (ask.Good q) (At j) (No r) e f = absurd (best-not-nothing (q .criterion) e (f .1))
 answers-one P (ask.Good q) (No r) (At k) e f = absurd (best-not-nothing (q .criterion) f (e .1))
 answers-one P (ask.Good q) (No r) (No s) e f = ap No (e .0 ∙ sym (f .0))
-
--- a good ask has two different stops of the tables
-pub record GoodAsk (n : ℕ) (q : Asked) : Type 0 where
-  pub from-stop : q .from < n
-  pub to-stop : q .to < n
-  pub apart : q .from ≢ q .to
 
 pub ask-good : (n from to : ℕ) (w : Wanted) (q : Asked) → askRead n from to w ≡ ask.Good q → GoodAsk n q
 unfolding askRead

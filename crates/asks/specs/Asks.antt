@@ -1,7 +1,8 @@
 -- The three asks over a tables file: what is refused, and what is answered.
-use Prim.Native.Nat.{ℕ}
+use Prim.Native.Nat.{ℕ, _<_}
 use mathlib.Core.Path.{_≡_}
 use mathlib.Core.List.{List}
+use mathlib.Core.Logic.{_≢_}
 use mathlib.Core.Bool.{cond}
 use lib.Dec.{ltb, eqb}
 use Rattle.kinds.specs.Refusals.{stopHigh, sameStop, minuteHigh, minutesCrossed, noJourney, refusal}
@@ -19,6 +20,7 @@ use Rattle.tables.specs.declared.TablesRead.the-variants as tables
 use Rattle.tables.specs.Judged.{judgedTables}
 use Rattle.asks.specs.declared.Wanted.{Wanted}
 use Rattle.asks.specs.declared.Wanted.the-variants as wanted
+use Rattle.asks.specs.declared.Asked.{Asked}
 use Rattle.asks.specs.declared.AskRead.{AskRead}
 use Rattle.asks.specs.declared.AskRead.the-variants as ask
 use Rattle.asks.specs.declared.MinutesRead.{MinutesRead}
@@ -67,3 +69,9 @@ AnswersBy P (ask.Good q) (No r) = (r ≡ refusal noJourney 0) × Nothing (P (q .
 -- "The answer over the tables is the best sketch by the rules above", or 16 where there is none
 abbrev pub Answers : Tables → AskRead → Answer → Type 0
 Answers T q x = AnswersBy (Sketch T) q x
+
+-- a good ask has two different stops of the tables
+pub record GoodAsk (n : ℕ) (q : Asked) : Type 0 where
+  pub from-stop : q .from < n
+  pub to-stop : q .to < n
+  pub apart : q .from ≢ q .to

@@ -12,10 +12,9 @@ use Rattle.kinds.specs.Limits.{lastMinute}
 use Rattle.journeys.specs.declared.Criterion.{Criterion}
 use Rattle.journeys.specs.declared.Criterion.the-variants.{Early, Late, Short}
 use Rattle.journeys.specs.Service.{Service, RideAt, GoodService}
-use Rattle.journeys.specs.Journey.{Journey, one, more, rides, RidesOf}
+use Rattle.journeys.specs.Journey.{Journey, one, more, rides, RidesOf, Within}
 use Rattle.journeys.specs.Criteria.{Best, Nothing}
 use Rattle.journeys.specs.Example.{nth, many, Reply, at, nothing, Case, Says, Holds, casesAtoJ}
-use Rattle.journeys.specs.PairLaws.{Within}
 use Rattle.journeys.specs.JourneyLaws.{journey-later, journey-last}
 use Rattle.journeys.specs.ReachLaws.{Starts, to-start}
 

@@ -10,12 +10,12 @@ use lib.ListN.{length, length-append}
 use Rattle.loops.specs.Decide.{dec-then, Least, least, least-one}
 use Rattle.journeys.specs.Service.{Service, RideAt, GoodService}
 use Rattle.journeys.specs.Journey.{one, rides, RidesOf}
-use Rattle.journeys.specs.Tables.{Tables, of-out, of-in, Label, GoodTables, JoinAt, Sketch, single, joined}
+use Rattle.journeys.specs.Tables.{Tables, of-out, of-in, Label, GoodTables, JoinAt, Sketch, single, joined, LabelWith}
 use Rattle.journeys.specs.Check.{AllSupported}
 use Rattle.journeys.specs.Rides.{Opens, ride, both, Chosen, by-label, by-hub}
 use Rattle.journeys.specs.JourneyLaws.{join, rides-join}
 use Rattle.journeys.specs.ReachLaws.{dec-ride, dec-some-ride}
-use Rattle.journeys.specs.SketchLaws.{label-later, one-by-dep, one-by-arr, LabelWith, dec-label}
+use Rattle.journeys.specs.SketchLaws.{label-later, one-by-dep, one-by-arr, dec-label}
 
 -- the rides of a label are a journey with exactly its pair
 pub opens-journey : {S : Service} {T : Tables} {u v d a : ℕ} {p : Option ℕ} {l : List ℕ} → Opens S T u v d a p l → RidesOf S u v d a l

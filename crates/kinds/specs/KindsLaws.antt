@@ -8,7 +8,7 @@ use lib.Dec.{ltb, leb, eqb}
 use borrow.Author.Tests.{ltb-true, ltb-false, leb-true, leb-false, eqb-true, eqb-false}
 use Rattle.loops.specs.Chain.{past, stays}
 use Rattle.kinds.specs.Limits.{mostStops, mostRuns, noPivot, lastMinute, mostTrip}
-use Rattle.kinds.specs.Kinds.{isStopCount, isRunCount, stopOf, runOf, labelOf}
+use Rattle.kinds.specs.Kinds.{isStopCount, isRunCount, stopOf, runOf, labelOf, GoodRun, GoodLabel}
 use Rattle.kinds.specs.declared.StopRead.the-variants as stop
 use Rattle.kinds.specs.declared.Stop.{Stop}
 use Rattle.kinds.specs.declared.Run.{Run}
@@ -35,16 +35,6 @@ stop-good n count s e =
     let f = z .1 in
     (cc, ltb-true n count (z .0))
 
--- the five numbers of a good run
-pub record GoodRun (stops from to dep arr trip : ℕ) : Type 0 where
-  pub from-stop : from < stops
-  pub to-stop : to < stops
-  pub apart : from ≡ to → ⊥
-  pub later : dep < arr
-  pub last : arr ≤ lastMinute
-  pub trip-least : 0 < trip
-  pub trip-most : trip ≤ mostTrip
-
 pub run-good : (stops from to dep arr t : ℕ) (r : Run) → runOf stops from to dep arr t ≡ run.Good r →
     GoodRun stops from to dep arr t × (r ≡ record { from = from; to = to; dep = dep; arr = arr; trip = t })
 unfolding runOf
@@ -68,18 +58,6 @@ run-good stops from to dep arr t r e =
       },
       cc,
     )
-
--- a pivot is none, or "more than the hub, less than n and not the owner"
-pub record GoodPivot (stops owner hub pivot : ℕ) : Type 0 where
-  pub above : hub < pivot
-  pub below : pivot < stops
-  pub other : pivot ≡ owner → ⊥
-
-pub record GoodLabel (stops owner hub dep arr pivot : ℕ) : Type 0 where
-  pub low : hub < owner
-  pub later : dep < arr
-  pub last : arr ≤ lastMinute
-  pub pivoted : (pivot ≡ noPivot) ⊎ GoodPivot stops owner hub pivot
 
 pub label-good : (stops owner hub dep arr pivot : ℕ) (l : Label) → labelOf stops owner hub dep arr pivot ≡ label.Good l →
     GoodLabel stops owner hub dep arr pivot × (l ≡ record { hub = hub; dep = dep; arr = arr; pivot = pivot })

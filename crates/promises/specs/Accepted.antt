@@ -12,7 +12,8 @@ use Rattle.kinds.specs.declared.Refusal.{Refusal}
 use Rattle.journeys.specs.Check as the
 use Rattle.journeys.specs.Rule.{ByRule}
 use Rattle.journeys.specs.RuleLaws.{by-rule-accepted}
-use Rattle.journeys.specs.AcceptedLaws.{accepted-best, accepted-nothing, Unsupported, unsupported-real, Missed, gap-real}
+use Rattle.journeys.specs.Check.{Unsupported, Missed}
+use Rattle.journeys.specs.AcceptedLaws.{accepted-best, accepted-nothing, unsupported-real, gap-real}
 use Rattle.tables.specs.declared.TablesRead.{TablesRead}
 use Rattle.tables.specs.declared.TablesRead.the-variants as tables
 use Rattle.tables.specs.File.{tablesOf}

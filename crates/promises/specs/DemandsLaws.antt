@@ -10,7 +10,7 @@ use Rattle.asks.specs.declared.Answer.{Answer}
 use Rattle.asks.specs.Asks.{askRead, asked}
 use Rattle.asks.specs.AskLaws.{answers-one}
 use Rattle.timetable.specs.Numbers.{serviceOf}
-use Rattle.tables.specs.OneFile.{AreBytes}
+use Rattle.tables.specs.File.{AreBytes}
 use Rattle.verdict.specs.declared.Verdict.{Verdict}
 use Rattle.verdict.specs.declared.Verdict.the-variants as verdict
 use Rattle.verdict.specs.VerdictLaws.{checked-one}

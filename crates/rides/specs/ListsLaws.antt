@@ -29,8 +29,8 @@ use Rattle.asks.specs.declared.Wanted.{Wanted}
 use Rattle.asks.specs.declared.Asked.{Asked}
 use Rattle.asks.specs.declared.AskRead.{AskRead}
 use Rattle.asks.specs.declared.AskRead.the-variants as ask
-use Rattle.asks.specs.Asks.{ifTables, askRead}
-use Rattle.asks.specs.AskLaws.{GoodAsk, ask-good}
+use Rattle.asks.specs.Asks.{ifTables, askRead, GoodAsk}
+use Rattle.asks.specs.AskLaws.{ask-good}
 use Rattle.ground.specs.Ground.{groundRoom, judgedBoth}
 use Rattle.ground.specs.GroundLaws.{BothGood, both-good}
 use Rattle.opening.specs.Opening as opening
