@@ -32,7 +32,7 @@ use Rattle.asks.specs.declared.AskRead.the-variants as ask
 use Rattle.asks.specs.Asks.{ifTables, askRead, GoodAsk}
 use Rattle.asks.specs.AskLaws.{ask-good}
 use Rattle.ground.specs.Ground.{groundRoom, judgedBoth}
-use Rattle.ground.specs.GroundLaws.{BothGood, both-good}
+use Rattle.ground.specs.GroundLaws.{BothGood, both-good, judged-both}
 use Rattle.opening.specs.Opening as opening
 use Rattle.rides.specs.declared.Listed.{Listed}
 use Rattle.rides.specs.declared.RidesAnswer.{RidesAnswer}
@@ -63,6 +63,12 @@ module _ (b : List ℕ) (stops count : ℕ) (runs : List ℕ) (lent from to : �
             room = g .room;
             good = subst (λ m. GoodAsk m q) (g .same) (ask-good n from to w q h);
           }
+
+-- over good tables and good numbers, with the working room, an ask is judged by the stop count alone
+pub rides-asked-of : (b : List ℕ) (stops count : ℕ) (runs : List ℕ) (lent from to : ℕ) (w : Wanted) → judgedTables b ≡ tables.Good stops → GoodNumbers stops count runs → groundRoom ≤ lent →
+    ridesAsked b stops count runs lent from to w ≡ askRead stops from to w
+unfolding ridesAsked
+rides-asked-of b stops count runs lent from to w e g h = rw (judged-both b stops count runs lent e g h) refl
 
 -- ---- what is listed
 
