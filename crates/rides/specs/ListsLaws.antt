@@ -114,23 +114,21 @@ module _ (S : Service) (T : Tables) (q : Asked) where
 
 -- ---- no second answer and no second list meet the contract
 
+-- the rides of the best pair, of whatever pairs it is the best, are one list
+pub one-list : {S : Service} {T : Tables} → GoodTables T → (q : Asked) (P : ℕ → ℕ → Type 0) {d a e b : ℕ} {l m : List ℕ} → Best P (q .criterion) d a → Best P (q .criterion) e b →
+    Chosen S T (q .from) (q .to) d a l → Chosen S T (q .from) (q .to) e b m → l ≡ m
+one-list {S} {T} G q P {m = m} x y f g =
+    let s = best-one (q .criterion) y x in
+    chosen-one G f (subst₂ (λ d a. Chosen S T (q .from) (q .to) d a m) (s .0) (s .1) g)
+
+pub same-listed : {d a e b k j : ℕ} → d ≡ e → a ≡ b → k ≡ j → _≡_ {A = Listed} (record { dep = d; arr = a; rides = k }) (record { dep = e; arr = b; rides = j })
+same-listed e f g = cc
+
 module _ (S : Service) (T : Tables) (q : Asked) (G : GoodTables T) where
-  abbrev Pair : ℕ → ℕ → Type 0
-  Pair d a = Best (Sketch T (q .from) (q .to)) (q .criterion) d a
-
-  -- the rides of the best pair are one list
-  one-list : {d a e b : ℕ} {l m : List ℕ} → Pair d a → Pair e b → Chosen S T (q .from) (q .to) d a l → Chosen S T (q .from) (q .to) e b m → l ≡ m
-  one-list {m = m} x y f g =
-      let s = best-one (q .criterion) y x in
-      chosen-one G f (subst₂ (λ d a. Chosen S T (q .from) (q .to) d a m) (s .0) (s .1) g)
-
-  same-listed : {d a e b k j : ℕ} → d ≡ e → a ≡ b → k ≡ j → _≡_ {A = Listed} (record { dep = d; arr = a; rides = k }) (record { dep = e; arr = b; rides = j })
-  same-listed e f g = cc
-
   listed-one : (before x y : List ℕ) (j k : Listed) → ListedAs S T q before x j → ListedAs S T q before y k → (j ≡ k) × (x ≡ y)
   listed-one before x y j k f g =
       let s = best-one (q .criterion) (f .best) (g .best) in
-      let e = one-list (f .best) (g .best) (f .chosen) (g .chosen) in
+      let e = one-list G q (Sketch T (q .from) (q .to)) (f .best) (g .best) (f .chosen) (g .chosen) in
       (same-listed (s .0) (s .1) (f .count ∙ ap length e ∙ sym (g .count)), f .holds ∙ ap (λ l. l ++ replicate (length before - length l) 0) e ∙ sym (g .holds))
 
   -- what is listed is not refused
@@ -139,7 +137,7 @@ module _ (S : Service) (T : Tables) (q : Asked) (G : GoodTables T) where
   not-both before after j r f (missing e d a B n) =
       let s = best-one (q .criterion) (f .best) B in
       n (f .rides) (subst₂ (λ d a. Chosen S T (q .from) (q .to) d a (f .rides)) (s .0) (s .1) (f .chosen))
-  not-both before after j r f (short e d a B l C lt) = omega (arith, f .fits, ap length (one-list (f .best) B (f .chosen) C))
+  not-both before after j r f (short e d a B l C lt) = omega (arith, f .fits, ap length (one-list G q (Sketch T (q .from) (q .to)) (f .best) B (f .chosen) C))
 
   -- and one refusal is given
   refused-one : (room : ℕ) (r s : Refusal) → RefusedAs S T q room r → RefusedAs S T q room s → r ≡ s
