@@ -14,6 +14,7 @@ pub mod AcceptedLaws
 pub mod RuleLaws
 pub mod RidesLaws
 pub mod EarliestLaws
+pub mod TestLaws
 pub mod Example
 pub mod ExampleLaws
 pub mod Count
