@@ -1,23 +1,24 @@
+-- The example day T: its text, what the reader reads of it, and its tables.
 use Prim.Native.Nat.{ℕ, zero, suc}
-use Prim.Native.Char.{code}
-use Prim.Native.String.{String, [] as nothing, _∷_ as _before_}
+use Prim.Native.String.{String}
 use mathlib.Core.List.{List, [], _∷_, _++_}
 use Rattle.kinds.specs.Limits.{runsRoom, codesRoom}
+use Rattle.words.specs.Bytes.{bytes}
 use Rattle.words.specs.Words.{lf}
 use Rattle.reader.specs.Text.{Outcome, whole, bad, readText}
 use Rattle.journeys.specs.Service.{Service}
 use Rattle.timetable.specs.Numbers.{serviceOf}
-
-abbrev pub bytes : String → List ℕ
-bytes nothing = []
-bytes (c before t) = code c ∷ bytes t
 
 -- "Lines end in LF (byte 10)."
 abbrev pub textOf : List String → List ℕ
 textOf [] = []
 textOf (l ∷ ls) = bytes l ++ (lf ∷ textOf ls)
 
--- "Input T"
+-- "Input T" is these lines with its run lines in their place
+abbrev pub textWith : List String → List ℕ
+textWith runs = textOf ("timetable 1" ∷ "stop HUB" ∷ "stop MOOR" ∷ "stop QUAY-N" ∷ "stop QUAY-S" ∷ (runs ++ ("end" ∷ [])))
+
+-- its run lines; "Runs are numbered from 0 in file order."
 abbrev pub runLines : List String
 runLines =
     "run MOOR HUB 480 500 11" ∷
@@ -28,16 +29,35 @@ runLines =
     "run HUB QUAY-S 505 520 16" ∷
     []
 
-abbrev pub textWith : List String → List ℕ
-textWith runs = textOf ("timetable 1" ∷ "stop HUB" ∷ "stop MOOR" ∷ "stop QUAY-N" ∷ "stop QUAY-S" ∷ (runs ++ ("end" ∷ [])))
-
+-- the lines without line k
 abbrev pub without : ℕ → List String → List String
 without k [] = []
 without zero (l ∷ ls) = ls
 without (suc k) (l ∷ ls) = l ∷ without k ls
 
+-- T; "T without run 2"
 abbrev pub dayText : List ℕ
 dayText = textWith runLines
 
-abbrev pub readDay : List ℕ → Outcome
-readDay s = readText s runsRoom codesRoom
+abbrev pub textWithout2 : List ℕ
+textWithout2 = textWith (without 2 runLines)
+
+-- what the reader reads of a text, into rooms that any text fits
+abbrev pub readWhole : List ℕ → Outcome
+readWhole s = readText s runsRoom codesRoom
+
+-- the timetable in force by what was read; a refused text has none
+abbrev pub inForce : Outcome → Service
+inForce (whole b) = serviceOf (b .stops) (b .runs) (b .numbers)
+inForce (bad n p) = serviceOf 0 0 []
+
+abbrev pub exampleDay : Service
+exampleDay = inForce (readWhole dayText)
+
+abbrev pub withoutRun2 : Service
+withoutRun2 = inForce (readWhole textWithout2)
+
+-- "Its tables, 54 bytes in hex: `01 04`, contents `00000000 01000100 00000200 01000100`, bodies `00E001F401FF 00F901300203 00FE010D02FF
+-- 01EA011C02FF 011C023002FF 00F9010802FF`."
+abbrev pub dayTables : List ℕ
+dayTables = 0x01 ∷ 0x04 ∷ []
