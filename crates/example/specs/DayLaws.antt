@@ -1,15 +1,22 @@
 -- The example day: what is read of its text, the cases A to J, and its tables.
-use Prim.Native.Nat.{ℕ}
-use mathlib.Core.Path.{_≡_, refl}
+use Prim.Native.Nat.{ℕ, zero, suc, _+_, _*_}
+use mathlib.Core.Path.{_≡_, refl, sym, ap, fun-ext, subst₂, _∙_}
+use mathlib.Core.Bool.{true}
 use mathlib.Core.List.{List, [], _∷_, _++_}
-use lib.ListN.{length, replicate}
+use lib.ListN.{getD, replicate}
+use Rattle.kinds.specs.Limits.{runNumbers}
 use Rattle.kinds.specs.Kinds.{isCodeByte, isCodeLength, runOf}
 use Rattle.loops.specs.Every.{allB, sameB}
 use Rattle.words.specs.Words.{seekIn, seek, beginsB, isWordB, isDigit, isNumber, valueOf, numberAt, isCode}
 use Rattle.lookup.specs.Lookup.{hasCode, stopIn, stopNamed}
 use Rattle.lines.specs.Lines.{numbersAt, fieldsAt, stopLine, runFields, runLine, lineOf}
-use Rattle.reader.specs.Text.{Outcome, whole, putRun, readFrom, readText}
-use Rattle.example.specs.Day.{dayText, textWithout2, readWhole}
+use Rattle.reader.specs.Text.{whole, putRun, readFrom, readText}
+use Rattle.journeys.specs.Service.{Service}
+use Rattle.journeys.specs.Example.{Holds, casesAtoJ}
+use Rattle.journeys.specs.TestLaws.{allb, anyb, goodb, rideb, startb, reachb, withinb}
+use Rattle.journeys.specs.ExampleLaws.{ridesb, freeb, bestb, noneb, saysb, casesb, cases-of}
+use Rattle.timetable.specs.Numbers.{serviceOf}
+use Rattle.example.specs.Day.{dayText, textWithout2, readWhole, inForce, exampleDay, withoutRun2}
 
 -- four codes: where each starts and how long it is
 unfoldable pub dayCodes : List ℕ
@@ -33,3 +40,35 @@ pub read-without2 : readWhole textWithout2 ≡
 unfolding readText readFrom lineOf runLine runFields stopLine fieldsAt numbersAt stopNamed stopIn hasCode isCode numberAt valueOf isNumber isDigit isWordB beginsB seek seekIn sameB allB putRun isCodeByte isCodeLength runOf
     numbersWithout2 dayCodes
 read-without2 = refl
+
+-- zeros after the numbers are as no numbers
+zeros-after : (l : List ℕ) (n k : ℕ) → getD (l ++ replicate n 0) k 0 ≡ getD l k 0
+zeros-after [] zero k = refl
+zeros-after [] (suc n) zero = refl
+zeros-after [] (suc n) (suc k) = zeros-after [] n k
+zeros-after (x ∷ l) n zero = refl
+zeros-after (x ∷ l) n (suc k) = zeros-after l n k
+
+-- a service, by what stands at each place of its numbers
+serviceBy : ℕ → ℕ → (ℕ → ℕ) → Service
+serviceBy stops count at = record {
+  stops = stops;
+  slots = count;
+  in-force = λ i. true;
+  ride = λ i. record { from = at (runNumbers * i); to = at (runNumbers * i + 1); dep = at (runNumbers * i + 2); arr = at (runNumbers * i + 3) };
+}
+
+same-service : (stops count : ℕ) (l : List ℕ) (n : ℕ) → serviceOf stops count (l ++ replicate n 0) ≡ serviceOf stops count l
+unfolding serviceOf serviceBy
+same-service stops count l n = ap (serviceBy stops count) (fun-ext (zeros-after l n))
+
+day-is : exampleDay ≡ serviceOf 4 6 dayNumbers
+day-is = ap inForce day-read ∙ same-service 4 6 dayNumbers 20450
+
+without2-is : withoutRun2 ≡ serviceOf 4 5 numbersWithout2
+without2-is = ap inForce read-without2 ∙ same-service 4 5 numbersWithout2 20455
+
+-- "Proved cases on T"
+pub cases-hold : Holds (casesAtoJ exampleDay withoutRun2)
+unfolding casesb goodb saysb noneb bestb freeb ridesb rideb allb withinb reachb anyb startb serviceOf dayNumbers numbersWithout2
+cases-hold = subst₂ (λ (S R : Service). Holds (casesAtoJ S R)) (sym day-is) (sym without2-is) (cases-of (casesAtoJ (serviceOf 4 6 dayNumbers) (serviceOf 4 5 numbersWithout2)) tt)
