@@ -1,22 +1,29 @@
 -- The example day: what is read of its text, the cases A to J, and its tables.
 use Prim.Native.Nat.{ℕ, zero, suc, _+_, _*_}
-use mathlib.Core.Path.{_≡_, refl, sym, ap, fun-ext, subst₂, _∙_}
+use mathlib.Core.Path.{_≡_, refl, sym, ap, fun-ext, subst, subst₂, _∙_}
 use mathlib.Core.Bool.{true}
 use mathlib.Core.List.{List, [], _∷_, _++_}
 use lib.ListN.{getD, replicate}
 use Rattle.kinds.specs.Limits.{runNumbers}
-use Rattle.kinds.specs.Kinds.{isCodeByte, isCodeLength, runOf}
+use Rattle.kinds.specs.Kinds.{isCodeByte, isCodeLength, runOf, isStopCount, labelOf}
 use Rattle.loops.specs.Every.{allB, sameB}
+use Rattle.loops.specs.FirstOf.{firstOf}
 use Rattle.words.specs.Words.{seekIn, seek, beginsB, isWordB, isDigit, isNumber, valueOf, numberAt, isCode}
 use Rattle.lookup.specs.Lookup.{hasCode, stopIn, stopNamed}
 use Rattle.lines.specs.Lines.{numbersAt, fieldsAt, stopLine, runFields, runLine, lineOf}
 use Rattle.reader.specs.Text.{whole, putRun, readFrom, readText}
-use Rattle.journeys.specs.Service.{Service}
+use Rattle.journeys.specs.Service.{Service, GoodService}
+use Rattle.journeys.specs.Rule.{ByRule}
 use Rattle.journeys.specs.Example.{Holds, casesAtoJ}
-use Rattle.journeys.specs.TestLaws.{allb, anyb, goodb, rideb, startb, reachb, withinb}
+use Rattle.journeys.specs.RuleTestLaws.{undominatedb, viab, someViab, someRideb, labelledb, pivotb, ruleb, sideb, setb, heldb, pairb, soundb, fullb, by-rule-of}
+use Rattle.journeys.specs.TestLaws.{allb, anyb, goodb, good-of, rideb, startb, reachb, withinb}
 use Rattle.journeys.specs.ExampleLaws.{ridesb, freeb, bestb, noneb, saysb, casesb, cases-of}
 use Rattle.timetable.specs.Numbers.{serviceOf}
-use Rattle.example.specs.Day.{dayText, textWithout2, readWhole, inForce, exampleDay, withoutRun2}
+use Rattle.tables.specs.File.{startOf, labelAt, tablesOf}
+use Rattle.tables.specs.Judged.{follows, goodLabel, badLabel, judgedContents, judgedTables}
+use Rattle.tables.specs.declared.TablesRead.the-variants.{Good}
+use Rattle.builder.specs.Build.{RuleFile}
+use Rattle.example.specs.Day.{dayText, textWithout2, readWhole, inForce, exampleDay, withoutRun2, dayTables}
 
 -- four codes: where each starts and how long it is
 unfoldable pub dayCodes : List ℕ
@@ -72,3 +79,22 @@ without2-is = ap inForce read-without2 ∙ same-service 4 5 numbersWithout2 2045
 pub cases-hold : Holds (casesAtoJ exampleDay withoutRun2)
 unfolding casesb goodb saysb noneb bestb freeb ridesb rideb allb withinb reachb anyb startb serviceOf dayNumbers numbersWithout2
 cases-hold = subst₂ (λ (S R : Service). Holds (casesAtoJ S R)) (sym day-is) (sym without2-is) (cases-of (casesAtoJ (serviceOf 4 6 dayNumbers) (serviceOf 4 5 numbersWithout2)) tt)
+
+-- ---- its tables
+
+tables-judged : judgedTables dayTables ≡ Good 4
+unfolding judgedTables judgedContents badLabel goodLabel follows labelOf isStopCount startOf labelAt firstOf
+tables-judged = refl
+
+day-good : GoodService (serviceOf 4 6 dayNumbers)
+unfolding goodb allb serviceOf dayNumbers
+day-good = good-of (serviceOf 4 6 dayNumbers) tt
+
+by-rule : ByRule (serviceOf 4 6 dayNumbers) (tablesOf dayTables)
+unfolding soundb fullb pairb heldb setb sideb ruleb pivotb labelledb someRideb someViab viab undominatedb rideb allb anyb withinb reachb startb serviceOf dayNumbers tablesOf startOf labelAt
+by-rule = by-rule-of day-good (tablesOf dayTables) tt tt
+
+-- "Its tables": the rule's file of T
+pub day-tables : RuleFile exampleDay dayTables
+unfolding serviceOf
+day-tables = subst (λ (S : Service). RuleFile S dayTables) (sym day-is) (record { good = tables-judged; rule = by-rule })
