@@ -5,7 +5,7 @@ use mathlib.Core.List.{List, [], _∷_, _++_}
 use Rattle.kinds.specs.Limits.{runsRoom, codesRoom}
 use Rattle.words.specs.Bytes.{bytes}
 use Rattle.words.specs.Words.{lf}
-use Rattle.reader.specs.Text.{Outcome, whole, bad, readText}
+use Rattle.reader.specs.Text.{Outcome, whole, bad, readText, runsOf}
 use Rattle.journeys.specs.Service.{Service}
 use Rattle.timetable.specs.Numbers.{serviceOf}
 
@@ -53,6 +53,10 @@ inForce (bad n p) = serviceOf 0 0 []
 
 abbrev pub exampleDay : Service
 exampleDay = inForce (readWhole dayText)
+
+-- its numbers, as the reader leaves them in their room
+abbrev pub dayRuns : List ℕ
+dayRuns = runsOf (readWhole dayText) runsRoom
 
 abbrev pub withoutRun2 : Service
 withoutRun2 = inForce (readWhole textWithout2)

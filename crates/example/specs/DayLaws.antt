@@ -1,29 +1,44 @@
 -- The example day: what is read of its text, the cases A to J, and its tables.
-use Prim.Native.Nat.{ℕ, zero, suc, _+_, _*_}
+use Prim.Native.Nat.{ℕ, zero, suc, _+_, _*_, _-_, _≤_, _<_}
 use mathlib.Core.Path.{_≡_, refl, sym, ap, fun-ext, subst, subst₂, _∙_}
 use mathlib.Core.Bool.{true}
 use mathlib.Core.List.{List, [], _∷_, _++_}
-use lib.ListN.{getD, replicate}
-use Rattle.kinds.specs.Limits.{runNumbers}
-use Rattle.kinds.specs.Kinds.{isCodeByte, isCodeLength, runOf, isStopCount, labelOf}
+use mathlib.Core.Option.{none}
+use native.Mathlib.Omega.{arith}
+use native.Mathlib.Decide.{decLt}
+use lib.ListN.{length, getD, replicate, length-append, List·getD-eq-default}
+use lib.Dec.{ltb, ltb→lt}
+use borrow.Author.Tests.{le-leb}
+use Rattle.kinds.specs.Limits.{runNumbers, runsRoom}
+use Rattle.kinds.specs.Kinds.{isCodeByte, isCodeLength, runOf, isStopCount, isRunCount, labelOf}
 use Rattle.loops.specs.Every.{allB, sameB}
 use Rattle.loops.specs.FirstOf.{firstOf}
+use Rattle.loops.specs.Fold.{foldTo}
 use Rattle.words.specs.Words.{seekIn, seek, beginsB, isWordB, isDigit, isNumber, valueOf, numberAt, isCode}
 use Rattle.lookup.specs.Lookup.{hasCode, stopIn, stopNamed}
 use Rattle.lines.specs.Lines.{numbersAt, fieldsAt, stopLine, runFields, runLine, lineOf}
-use Rattle.reader.specs.Text.{whole, putRun, readFrom, readText}
+use Rattle.reader.specs.Text.{Outcome, whole, putRun, readFrom, readText, runsOf}
 use Rattle.journeys.specs.Service.{Service, GoodService}
 use Rattle.journeys.specs.Rule.{ByRule}
+use Rattle.journeys.specs.Count.{sumPairs, RuleCount}
+use Rattle.journeys.specs.CountTestLaws.{manyb, firstWith, manyWith, isWithb, amongb, withb, manyFor, countsb, rule-count-of}
 use Rattle.journeys.specs.Example.{Holds, casesAtoJ}
 use Rattle.journeys.specs.RuleTestLaws.{undominatedb, viab, someViab, someRideb, labelledb, pivotb, ruleb, sideb, setb, heldb, pairb, soundb, fullb, by-rule-of}
-use Rattle.journeys.specs.TestLaws.{allb, anyb, goodb, good-of, rideb, startb, reachb, withinb}
+use Rattle.journeys.specs.TestLaws.{allb, all-of, anyb, goodb, good-of, rideb, startb, reachb, withinb}
 use Rattle.journeys.specs.ExampleLaws.{ridesb, freeb, bestb, noneb, saysb, casesb, cases-of}
-use Rattle.timetable.specs.Numbers.{serviceOf}
+use Rattle.timetable.specs.Numbers.{serviceOf, readRun, refusedRun, judgedOf}
+use Rattle.timetable.specs.declared.Judged.the-variants as judged
 use Rattle.tables.specs.File.{startOf, labelAt, tablesOf}
 use Rattle.tables.specs.Judged.{follows, goodLabel, badLabel, judgedContents, judgedTables}
 use Rattle.tables.specs.declared.TablesRead.the-variants.{Good}
-use Rattle.builder.specs.Build.{RuleFile}
-use Rattle.example.specs.Day.{dayText, textWithout2, readWhole, inForce, exampleDay, withoutRun2, dayTables}
+use Rattle.tables.specs.GoodLaws.{judged-good}
+use Rattle.tables.specs.TablesLaws.{good-tables}
+use Rattle.tables.specs.OneFile.{AreBytes}
+use Rattle.builder.specs.Build.{buildRoom, RuleFile, BuiltOf, built, BuildOf, good}
+use Rattle.builder.specs.BuildLaws.{build-one}
+use Rattle.builder.specs.declared.BuildAnswer.{BuildAnswer}
+use Rattle.builder.specs.declared.BuildAnswer.the-variants.{Built}
+use Rattle.example.specs.Day.{dayText, textWithout2, readWhole, inForce, exampleDay, dayRuns, withoutRun2, dayTables}
 
 -- four codes: where each starts and how long it is
 unfoldable pub dayCodes : List ℕ
@@ -98,3 +113,48 @@ by-rule = by-rule-of day-good (tablesOf dayTables) tt tt
 pub day-tables : RuleFile exampleDay dayTables
 unfolding serviceOf
 day-tables = subst (λ (S : Service). RuleFile S dayTables) (sym day-is) (record { good = tables-judged; rule = by-rule })
+
+-- ---- what is built of its numbers
+
+rule-count : RuleCount (serviceOf 4 6 dayNumbers) 6
+unfolding sumPairs foldTo manyFor countsb withb amongb isWithb manyWith firstWith manyb allb serviceOf tablesOf startOf labelAt
+rule-count = rule-count-of by-rule (good-tables (judged-good dayTables 4 tables-judged)) refl tt
+
+are-bytes : AreBytes dayTables
+unfolding allb
+are-bytes i = go (decLt i 54)
+  where
+    go : Dec (i < 54) → getD dayTables i 0 < 256
+    go (yes h) = ltb→lt (getD dayTables i 0) 256 (all-of 54 (λ k. ltb (getD dayTables k 0) 256) tt i h)
+    go (no h) = omega (arith, List·getD-eq-default dayTables 0 {n = i} (omega arith))
+
+judged-good-numbers : (l : List ℕ) (work : ℕ) → 30 ≤ length l → buildRoom ≤ work → firstOf (refusedRun 4 l) 6 ≡ none → judgedOf 4 6 l work buildRoom ≡ judged.Good
+unfolding judgedOf isStopCount isRunCount
+judged-good-numbers l work h k e = rw (le-leb 30 (length l) h, le-leb buildRoom work k, e)
+
+built-of : (lent : ℕ) → 54 ≤ lent → BuiltOf (serviceOf 4 6 dayNumbers) lent (Built 54 6) (dayTables ++ replicate (lent - 54) 0)
+unfolding serviceOf
+built-of lent h = built 6 dayTables rule-count (omega arith) h (record { good = tables-judged; rule = by-rule }) refl refl refl
+
+module _ (work lent : ℕ) (w : buildRoom ≤ work) (l : 54 ≤ lent) where
+  numbers-are : dayRuns ≡ dayNumbers ++ replicate 20450 0
+  numbers-are = ap (λ (o : Outcome). runsOf o runsRoom) day-read
+
+  long : 30 ≤ length (dayNumbers ++ replicate 20450 0)
+  unfolding dayNumbers
+  long = omega (arith, length-append dayNumbers (replicate 20450 0))
+
+  none-refused : firstOf (refusedRun 4 (dayNumbers ++ replicate 20450 0)) 6 ≡ none
+  unfolding firstOf readRun runOf dayNumbers
+  none-refused = refl
+
+  builds : BuildOf 4 6 (dayNumbers ++ replicate 20450 0) work lent (Built 54 6) (dayTables ++ replicate (lent - 54) 0)
+  builds = good (judged-good-numbers _ work long w none-refused)
+      (subst (λ (S : Service). BuiltOf S lent (Built 54 6) (dayTables ++ replicate (lent - 54) 0)) (sym (same-service 4 6 dayNumbers 20450)) (built-of lent l))
+
+  -- any build of T's numbers, where there is room, gives these 54 bytes and tells of 6 labels; zeros follow
+  pub day-built : {answer : BuildAnswer} {tables : List ℕ} → AreBytes tables → BuildOf 4 6 dayRuns work lent answer tables →
+      (answer ≡ Built 54 6) × (tables ≡ dayTables ++ replicate (lent - 54) 0)
+  day-built {answer} {tables} x b =
+      build-one x (λ i. subst (λ (y : ℕ). y < 256) (sym (zeros-after dayTables (lent - 54) i)) (are-bytes i))
+      (subst (λ (r : List ℕ). BuildOf 4 6 r work lent answer tables) numbers-are b) builds
