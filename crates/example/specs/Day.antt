@@ -2,10 +2,12 @@
 use Prim.Native.Nat.{ℕ, zero, suc}
 use Prim.Native.String.{String}
 use mathlib.Core.List.{List, [], _∷_, _++_}
+use lib.ListN.{length}
 use Rattle.kinds.specs.Limits.{runsRoom, codesRoom}
 use Rattle.words.specs.Bytes.{bytes}
 use Rattle.words.specs.Words.{lf}
-use Rattle.reader.specs.Text.{Outcome, whole, bad, readText, runsOf}
+use Rattle.lookup.specs.Lookup.{stopNamed}
+use Rattle.reader.specs.Text.{Outcome, whole, bad, readText, runsOf, codesOf}
 use Rattle.journeys.specs.Service.{Service}
 use Rattle.timetable.specs.Numbers.{serviceOf}
 
@@ -54,12 +56,18 @@ inForce (bad n p) = serviceOf 0 0 []
 abbrev pub exampleDay : Service
 exampleDay = inForce (readWhole dayText)
 
--- its numbers, as the reader leaves them in their room
-abbrev pub dayRuns : List ℕ
-dayRuns = runsOf (readWhole dayText) runsRoom
-
 abbrev pub withoutRun2 : Service
 withoutRun2 = inForce (readWhole textWithout2)
+
+-- the numbers and the codes of T, as the reader leaves them in their rooms; the stop of T with a code
+abbrev pub dayNumbers : List ℕ
+dayNumbers = runsOf (readWhole dayText) runsRoom
+
+abbrev pub dayCodes : List ℕ
+dayCodes = codesOf (readWhole dayText) codesRoom
+
+abbrev pub stopCalled : String → ℕ
+stopCalled name = stopNamed dayText dayCodes (exampleDay .stops) (bytes name) 0 (length (bytes name))
 
 -- "Its tables, 54 bytes in hex: `01 04`, contents `00000000 01000100 00000200 01000100`, bodies `00E001F401FF 00F901300203 00FE010D02FF
 -- 01EA011C02FF 011C023002FF 00F9010802FF`."

@@ -22,10 +22,8 @@ use Rattle.journeys.specs.Service.{Service, GoodService}
 use Rattle.journeys.specs.Rule.{ByRule}
 use Rattle.journeys.specs.Count.{sumPairs, RuleCount}
 use Rattle.journeys.specs.CountTestLaws.{manyb, firstWith, manyWith, isWithb, amongb, withb, manyFor, countsb, rule-count-of}
-use Rattle.journeys.specs.Example.{Holds, casesAtoJ}
 use Rattle.journeys.specs.RuleTestLaws.{undominatedb, viab, someViab, someRideb, labelledb, pivotb, ruleb, sideb, setb, heldb, pairb, soundb, fullb, by-rule-of}
 use Rattle.journeys.specs.TestLaws.{allb, all-of, anyb, goodb, good-of, rideb, startb, reachb, withinb}
-use Rattle.journeys.specs.ExampleLaws.{ridesb, freeb, bestb, noneb, saysb, casesb, cases-of}
 use Rattle.timetable.specs.Numbers.{serviceOf, readRun, refusedRun, judgedOf}
 use Rattle.timetable.specs.declared.Judged.the-variants as judged
 use Rattle.tables.specs.File.{startOf, labelAt, tablesOf}
@@ -38,30 +36,29 @@ use Rattle.builder.specs.Build.{buildRoom, RuleFile, BuiltOf, built, BuildOf, g
 use Rattle.builder.specs.BuildLaws.{build-one}
 use Rattle.builder.specs.declared.BuildAnswer.{BuildAnswer}
 use Rattle.builder.specs.declared.BuildAnswer.the-variants.{Built}
-use Rattle.example.specs.Day.{dayText, textWithout2, readWhole, inForce, exampleDay, dayRuns, withoutRun2, dayTables}
+use Rattle.example.specs.Day.{dayText, textWithout2, readWhole, inForce, stopCalled, exampleDay, dayNumbers, withoutRun2, dayTables}
+use Rattle.example.specs.Cases.{Holds, casesAtoJ}
+use Rattle.example.specs.CasesLaws.{ridesb, freeb, bestb, noneb, saysb, casesb, cases-of}
 
--- four codes: where each starts and how long it is
-unfoldable pub dayCodes : List ℕ
-dayCodes = 17 ∷ 3 ∷ 26 ∷ 4 ∷ 36 ∷ 6 ∷ 48 ∷ 6 ∷ []
+-- ---- what is read
 
-unfoldable pub dayNumbers : List ℕ
-dayNumbers =
+-- six runs, five of them, and four codes: where each starts and how long it is
+unfoldable pub sixRuns : List ℕ
+sixRuns =
     1 ∷ 0 ∷ 480 ∷ 500 ∷ 11 ∷ 0 ∷ 2 ∷ 500 ∷ 530 ∷ 12 ∷ 0 ∷ 2 ∷ 510 ∷ 525 ∷ 13 ∷ 3 ∷ 1 ∷ 540 ∷ 560 ∷ 14 ∷ 1 ∷ 2 ∷ 490 ∷ 540 ∷ 15 ∷ 0 ∷ 3 ∷ 505 ∷ 520 ∷ 16 ∷ []
 
-unfoldable pub numbersWithout2 : List ℕ
-numbersWithout2 =
+unfoldable pub fiveRuns : List ℕ
+fiveRuns =
     1 ∷ 0 ∷ 480 ∷ 500 ∷ 11 ∷ 0 ∷ 2 ∷ 500 ∷ 530 ∷ 12 ∷ 3 ∷ 1 ∷ 540 ∷ 560 ∷ 14 ∷ 1 ∷ 2 ∷ 490 ∷ 540 ∷ 15 ∷ 0 ∷ 3 ∷ 505 ∷ 520 ∷ 16 ∷ []
 
-pub day-read : readWhole dayText ≡ whole (record { line = 12; stops = 4; runs = 6; codes = dayCodes ++ replicate 502 0; numbers = dayNumbers ++ replicate 20450 0 })
-unfolding readText readFrom lineOf runLine runFields stopLine fieldsAt numbersAt stopNamed stopIn hasCode isCode numberAt valueOf isNumber isDigit isWordB beginsB seek seekIn sameB allB putRun isCodeByte isCodeLength runOf
-    dayNumbers dayCodes
-day-read = refl
+unfoldable pub fourCodes : List ℕ
+fourCodes = 17 ∷ 3 ∷ 26 ∷ 4 ∷ 36 ∷ 6 ∷ 48 ∷ 6 ∷ []
 
-pub read-without2 : readWhole textWithout2 ≡
-    whole (record { line = 11; stops = 4; runs = 5; codes = dayCodes ++ replicate 502 0; numbers = numbersWithout2 ++ replicate 20455 0 })
-unfolding readText readFrom lineOf runLine runFields stopLine fieldsAt numbersAt stopNamed stopIn hasCode isCode numberAt valueOf isNumber isDigit isWordB beginsB seek seekIn sameB allB putRun isCodeByte isCodeLength runOf
-    numbersWithout2 dayCodes
-read-without2 = refl
+sixRead : Outcome
+sixRead = whole (record { line = 12; stops = 4; runs = 6; codes = fourCodes ++ replicate 502 0; numbers = sixRuns ++ replicate 20450 0 })
+
+fiveRead : Outcome
+fiveRead = whole (record { line = 11; stops = 4; runs = 5; codes = fourCodes ++ replicate 502 0; numbers = fiveRuns ++ replicate 20455 0 })
 
 -- zeros after the numbers are as no numbers
 zeros-after : (l : List ℕ) (n k : ℕ) → getD (l ++ replicate n 0) k 0 ≡ getD l k 0
@@ -84,16 +81,33 @@ same-service : (stops count : ℕ) (l : List ℕ) (n : ℕ) → serviceOf stops 
 unfolding serviceOf serviceBy
 same-service stops count l n = ap (serviceBy stops count) (fun-ext (zeros-after l n))
 
-day-is : exampleDay ≡ serviceOf 4 6 dayNumbers
-day-is = ap inForce day-read ∙ same-service 4 6 dayNumbers 20450
+-- T and T without run 2, by computing
+both-read : (readWhole dayText ≡ sixRead) × (readWhole textWithout2 ≡ fiveRead)
+unfolding readText readFrom lineOf runLine runFields stopLine fieldsAt numbersAt stopNamed stopIn hasCode isCode numberAt valueOf isNumber isDigit isWordB beginsB
+    seek seekIn sameB allB putRun isCodeByte isCodeLength runOf sixRead fiveRead sixRuns fiveRuns fourCodes
+both-read = (refl, refl)
 
-without2-is : withoutRun2 ≡ serviceOf 4 5 numbersWithout2
-without2-is = ap inForce read-without2 ∙ same-service 4 5 numbersWithout2 20455
+-- the reader's answer to T: 4 stops and 6 runs, these numbers and codes, and zeros
+pub day-read : readWhole dayText ≡ whole (record { line = 12; stops = 4; runs = 6; codes = fourCodes ++ replicate 502 0; numbers = sixRuns ++ replicate 20450 0 })
+unfolding sixRead
+day-read = both-read .0
+
+pub stops-called : (stopCalled "HUB" ≡ 0) × (stopCalled "MOOR" ≡ 1) × (stopCalled "QUAY-N" ≡ 2) × (stopCalled "QUAY-S" ≡ 3)
+unfolding stopNamed stopIn hasCode sameB allB fourCodes serviceOf
+stops-called = rw day-read (refl, refl, refl, refl)
+
+day-is : exampleDay ≡ serviceOf 4 6 sixRuns
+unfolding sixRead
+day-is = ap inForce (both-read .0) ∙ same-service 4 6 sixRuns 20450
+
+without2-is : withoutRun2 ≡ serviceOf 4 5 fiveRuns
+unfolding fiveRead
+without2-is = ap inForce (both-read .1) ∙ same-service 4 5 fiveRuns 20455
 
 -- "Proved cases on T"
 pub cases-hold : Holds (casesAtoJ exampleDay withoutRun2)
-unfolding casesb goodb saysb noneb bestb freeb ridesb rideb allb withinb reachb anyb startb serviceOf dayNumbers numbersWithout2
-cases-hold = subst₂ (λ (S R : Service). Holds (casesAtoJ S R)) (sym day-is) (sym without2-is) (cases-of (casesAtoJ (serviceOf 4 6 dayNumbers) (serviceOf 4 5 numbersWithout2)) tt)
+unfolding casesb goodb saysb noneb bestb freeb ridesb rideb allb withinb reachb anyb startb serviceOf sixRuns fiveRuns
+cases-hold = subst₂ (λ (S R : Service). Holds (casesAtoJ S R)) (sym day-is) (sym without2-is) (cases-of (casesAtoJ (serviceOf 4 6 sixRuns) (serviceOf 4 5 fiveRuns)) tt)
 
 -- ---- its tables
 
@@ -101,12 +115,12 @@ tables-judged : judgedTables dayTables ≡ Good 4
 unfolding judgedTables judgedContents badLabel goodLabel follows labelOf isStopCount startOf labelAt firstOf
 tables-judged = refl
 
-day-good : GoodService (serviceOf 4 6 dayNumbers)
-unfolding goodb allb serviceOf dayNumbers
-day-good = good-of (serviceOf 4 6 dayNumbers) tt
+day-good : GoodService (serviceOf 4 6 sixRuns)
+unfolding goodb allb serviceOf sixRuns
+day-good = good-of (serviceOf 4 6 sixRuns) tt
 
-by-rule : ByRule (serviceOf 4 6 dayNumbers) (tablesOf dayTables)
-unfolding soundb fullb pairb heldb setb sideb ruleb pivotb labelledb someRideb someViab viab undominatedb rideb allb anyb withinb reachb startb serviceOf dayNumbers tablesOf startOf labelAt
+by-rule : ByRule (serviceOf 4 6 sixRuns) (tablesOf dayTables)
+unfolding soundb fullb pairb heldb setb sideb ruleb pivotb labelledb someRideb someViab viab undominatedb rideb allb anyb withinb reachb startb serviceOf sixRuns tablesOf startOf labelAt
 by-rule = by-rule-of day-good (tablesOf dayTables) tt tt
 
 -- "Its tables": the rule's file of T
@@ -116,7 +130,7 @@ day-tables = subst (λ (S : Service). RuleFile S dayTables) (sym day-is) (record
 
 -- ---- what is built of its numbers
 
-rule-count : RuleCount (serviceOf 4 6 dayNumbers) 6
+rule-count : RuleCount (serviceOf 4 6 sixRuns) 6
 unfolding sumPairs foldTo manyFor countsb withb amongb isWithb manyWith firstWith manyb allb serviceOf tablesOf startOf labelAt
 rule-count = rule-count-of by-rule (good-tables (judged-good dayTables 4 tables-judged)) refl tt
 
@@ -132,28 +146,28 @@ judged-good-numbers : (l : List ℕ) (work : ℕ) → 30 ≤ length l → buildR
 unfolding judgedOf isStopCount isRunCount
 judged-good-numbers l work h k e = rw (le-leb 30 (length l) h, le-leb buildRoom work k, e)
 
-built-of : (lent : ℕ) → 54 ≤ lent → BuiltOf (serviceOf 4 6 dayNumbers) lent (Built 54 6) (dayTables ++ replicate (lent - 54) 0)
+built-of : (lent : ℕ) → 54 ≤ lent → BuiltOf (serviceOf 4 6 sixRuns) lent (Built 54 6) (dayTables ++ replicate (lent - 54) 0)
 unfolding serviceOf
 built-of lent h = built 6 dayTables rule-count (omega arith) h (record { good = tables-judged; rule = by-rule }) refl refl refl
 
 module _ (work lent : ℕ) (w : buildRoom ≤ work) (l : 54 ≤ lent) where
-  numbers-are : dayRuns ≡ dayNumbers ++ replicate 20450 0
+  numbers-are : dayNumbers ≡ sixRuns ++ replicate 20450 0
   numbers-are = ap (λ (o : Outcome). runsOf o runsRoom) day-read
 
-  long : 30 ≤ length (dayNumbers ++ replicate 20450 0)
-  unfolding dayNumbers
-  long = omega (arith, length-append dayNumbers (replicate 20450 0))
+  long : 30 ≤ length (sixRuns ++ replicate 20450 0)
+  unfolding sixRuns
+  long = omega (arith, length-append sixRuns (replicate 20450 0))
 
-  none-refused : firstOf (refusedRun 4 (dayNumbers ++ replicate 20450 0)) 6 ≡ none
-  unfolding firstOf readRun runOf dayNumbers
+  none-refused : firstOf (refusedRun 4 (sixRuns ++ replicate 20450 0)) 6 ≡ none
+  unfolding firstOf readRun runOf sixRuns
   none-refused = refl
 
-  builds : BuildOf 4 6 (dayNumbers ++ replicate 20450 0) work lent (Built 54 6) (dayTables ++ replicate (lent - 54) 0)
+  builds : BuildOf 4 6 (sixRuns ++ replicate 20450 0) work lent (Built 54 6) (dayTables ++ replicate (lent - 54) 0)
   builds = good (judged-good-numbers _ work long w none-refused)
-      (subst (λ (S : Service). BuiltOf S lent (Built 54 6) (dayTables ++ replicate (lent - 54) 0)) (sym (same-service 4 6 dayNumbers 20450)) (built-of lent l))
+      (subst (λ (S : Service). BuiltOf S lent (Built 54 6) (dayTables ++ replicate (lent - 54) 0)) (sym (same-service 4 6 sixRuns 20450)) (built-of lent l))
 
   -- any build of T's numbers, where there is room, gives these 54 bytes and tells of 6 labels; zeros follow
-  pub day-built : {answer : BuildAnswer} {tables : List ℕ} → AreBytes tables → BuildOf 4 6 dayRuns work lent answer tables →
+  pub day-built : {answer : BuildAnswer} {tables : List ℕ} → AreBytes tables → BuildOf 4 6 dayNumbers work lent answer tables →
       (answer ≡ Built 54 6) × (tables ≡ dayTables ++ replicate (lent - 54) 0)
   day-built {answer} {tables} x b =
       build-one x (λ i. subst (λ (y : ℕ). y < 256) (sym (zeros-after dayTables (lent - 54) i)) (are-bytes i))

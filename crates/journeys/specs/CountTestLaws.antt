@@ -85,7 +85,7 @@ module _ {X : Tables} (good : GoodTables X) where
     unfolding amongb
     entry-among {k} e =
         let t = or-split (not (isWithb X side s h k)) _ (all-of (X .end side s) (amongb X side s h) (two .1) k (e .high))
-            (not-T (not (isWithb X side s h k)) (λ n. T-not (isWithb X side s h k) n (T-with e))) in
+        (not-T (not (isWithb X side s h k)) (λ n. T-not (isWithb X side s h k) n (T-with e))) in
         let t₁ = and-split (leb (firstWith X side s h) k) _ t in
         (leb→le (firstWith X side s h) k (t₁ .0), ltb→lt k (firstWith X side s h + manyWith X side s h) (t₁ .1))
 

@@ -16,8 +16,6 @@ pub mod RidesLaws
 pub mod EarliestLaws
 pub mod TestLaws
 pub mod RuleTestLaws
-pub mod Example
-pub mod ExampleLaws
 pub mod Count
 pub mod CountLaws
 pub mod CountTestLaws

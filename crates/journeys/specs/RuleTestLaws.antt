@@ -7,8 +7,8 @@ use mathlib.Core.Option.{Option, none, some}
 use Prim.Native.Nat.{ℕ, suc, pred, min, _≤_, _<_}
 use native.Mathlib.Nat.{le-refl}
 use native.Mathlib.Omega.{arith}
-use lib.Dec.{T, leb, ltb, eqb, leb→le, le→leb, eqb→eq, ltb→lt, lt→ltb, T-not, not-T}
-use Rattle.journeys.specs.Service.{Service, RideAt, GoodService}
+use lib.Dec.{T, leb, ltb, eqb, leb→le, eqb→eq, ltb→lt, T-not, not-T}
+use Rattle.journeys.specs.Service.{Service, GoodService}
 use Rattle.journeys.specs.Journey.{Journey, one, more, Undominated}
 use Rattle.journeys.specs.Tables.{Side, outs, ins, Tables, Entry}
 use Rattle.journeys.specs.Rule.{Pivot, by-run, by-stop, Rule, ByRule}

@@ -8,14 +8,14 @@ use native.Mathlib.Nat.{le-refl}
 use native.Mathlib.Omega.{arith}
 use lib.Dec.{T, leb, ltb, eqb, leb→le, eqb→eq, ltb→lt, T-not, not-T}
 use Rattle.kinds.specs.Limits.{lastMinute}
 use Rattle.journeys.specs.declared.Criterion.{Criterion}
 use Rattle.journeys.specs.declared.Criterion.the-variants.{Early, Late, Short}
 use Rattle.journeys.specs.Service.{Service, GoodService}
 use Rattle.journeys.specs.Journey.{Journey, one, more, rides, RidesOf}
 use Rattle.journeys.specs.Criteria.{Best, Nothing}
-use Rattle.journeys.specs.Example.{Reply, at, joined, nothing, Case, Says, Holds}
 use Rattle.journeys.specs.JourneyLaws.{journey-later, journey-last}
 use Rattle.journeys.specs.TestLaws.{and-then, or-else, and-split, or-split, allb, all-of, goodb, good-of, rideb, ride-of, withinb, T-within}
+use Rattle.example.specs.Cases.{Reply, at, joined, nothing, Case, Says, Holds}
 
 -- a list is the rides of a journey
 unfoldable pub ridesb : Service → ℕ → ℕ → ℕ → ℕ → List ℕ → Bool

@@ -1,12 +1,12 @@
--- The cases A to J of the example day T as one list under one claim. T itself, its text as it is read, is in the crate example.
+-- The cases A to J as one list under one claim.
 use mathlib.Core.Path.{_≡_}
 use mathlib.Core.List.{List, [], _∷_}
 use Prim.Native.Nat.{ℕ}
 use Rattle.journeys.specs.declared.Criterion.{Criterion}
 use Rattle.journeys.specs.declared.Criterion.the-variants.{Early, Late, Short}
 use Rattle.journeys.specs.Service.{Service}
 use Rattle.journeys.specs.Journey.{Journey, RidesOf}
 use Rattle.journeys.specs.Criteria.{Best, Nothing}
 
 -- what comes back: a pair and the rides of a journey that has it; a pair, two such rides and the minute at which they are "joined"; or nothing
 pub data Reply : Type 0 where
@@ -34,7 +34,7 @@ Holds (c ∷ l) = Says (c .service) (c .from) (c .to) (c .criterion) (c .reply) 
 abbrev pub onDay : Service → ℕ → ℕ → Criterion → Reply → Case
 onDay S u v c r = record { service = S; from = u; to = v; criterion = c; reply = r }
 
--- "Proved cases on T" (A) to (J), in order, where T is `day` and "T without run 2" is `less`. HUB is stop 0, MOOR 1, QUAY-N 2, QUAY-S 3.
+-- "Proved cases on T" (A) to (J), in order; `day` is T, `less` is "T without run 2". HUB is stop 0, MOOR 1, QUAY-N 2, QUAY-S 3.
 abbrev pub casesAtoJ : Service → Service → List Case
 casesAtoJ day less =
     onDay day 1 2 (Early 480) (at 480 525 (0 ∷ 2 ∷ [])) ∷ onDay day 1 2 (Early 481) (at 490 540 (4 ∷ [])) ∷
