@@ -123,10 +123,13 @@ by-rule : ByRule (serviceOf 4 6 sixRuns) (tablesOf dayTables)
 unfolding soundb fullb pairb heldb setb sideb ruleb pivotb labelledb someRideb someViab viab undominatedb rideb allb anyb withinb reachb startb serviceOf sixRuns tablesOf startOf labelAt
 by-rule = by-rule-of day-good (tablesOf dayTables) tt tt
 
+rule-file : RuleFile (serviceOf 4 6 sixRuns) dayTables
+unfolding serviceOf
+rule-file = record { good = tables-judged; rule = by-rule }
+
 -- "Its tables": the rule's file of T
 pub day-tables : RuleFile exampleDay dayTables
-unfolding serviceOf
-day-tables = subst (λ (S : Service). RuleFile S dayTables) (sym day-is) (record { good = tables-judged; rule = by-rule })
+day-tables = subst (λ (S : Service). RuleFile S dayTables) (sym day-is) rule-file
 
 -- ---- what is built of its numbers
 
@@ -142,33 +145,30 @@ are-bytes i = go (decLt i 54)
     go (yes h) = ltb→lt (getD dayTables i 0) 256 (all-of 54 (λ k. ltb (getD dayTables k 0) 256) tt i h)
     go (no h) = omega (arith, List·getD-eq-default dayTables 0 {n = i} (omega arith))
 
-judged-good-numbers : (l : List ℕ) (work : ℕ) → 30 ≤ length l → buildRoom ≤ work → firstOf (refusedRun 4 l) 6 ≡ none → judgedOf 4 6 l work buildRoom ≡ judged.Good
+numbers-are : dayNumbers ≡ sixRuns ++ replicate 20450 0
+numbers-are = ap (λ (o : Outcome). runsOf o runsRoom) day-read
+
+long : 30 ≤ length (sixRuns ++ replicate 20450 0)
+unfolding sixRuns
+long = omega (arith, length-append sixRuns (replicate 20450 0))
+
+none-refused : firstOf (refusedRun 4 (sixRuns ++ replicate 20450 0)) 6 ≡ none
+unfolding firstOf readRun runOf sixRuns
+none-refused = refl
+
+good-numbers : (l : List ℕ) (work : ℕ) → 30 ≤ length l → buildRoom ≤ work → firstOf (refusedRun 4 l) 6 ≡ none → judgedOf 4 6 l work buildRoom ≡ judged.Good
 unfolding judgedOf isStopCount isRunCount
-judged-good-numbers l work h k e = rw (le-leb 30 (length l) h, le-leb buildRoom work k, e)
+good-numbers l work h k e = rw (le-leb 30 (length l) h, le-leb buildRoom work k, e)
 
 built-of : (lent : ℕ) → 54 ≤ lent → BuiltOf (serviceOf 4 6 sixRuns) lent (Built 54 6) (dayTables ++ replicate (lent - 54) 0)
 unfolding serviceOf
-built-of lent h = built 6 dayTables rule-count (omega arith) h (record { good = tables-judged; rule = by-rule }) refl refl refl
+built-of lent h = built 6 dayTables rule-count (omega arith) h rule-file refl refl refl
 
-module _ (work lent : ℕ) (w : buildRoom ≤ work) (l : 54 ≤ lent) where
-  numbers-are : dayNumbers ≡ sixRuns ++ replicate 20450 0
-  numbers-are = ap (λ (o : Outcome). runsOf o runsRoom) day-read
-
-  long : 30 ≤ length (sixRuns ++ replicate 20450 0)
-  unfolding sixRuns
-  long = omega (arith, length-append sixRuns (replicate 20450 0))
-
-  none-refused : firstOf (refusedRun 4 (sixRuns ++ replicate 20450 0)) 6 ≡ none
-  unfolding firstOf readRun runOf sixRuns
-  none-refused = refl
-
-  builds : BuildOf 4 6 (sixRuns ++ replicate 20450 0) work lent (Built 54 6) (dayTables ++ replicate (lent - 54) 0)
-  builds = good (judged-good-numbers _ work long w none-refused)
-      (subst (λ (S : Service). BuiltOf S lent (Built 54 6) (dayTables ++ replicate (lent - 54) 0)) (sym (same-service 4 6 sixRuns 20450)) (built-of lent l))
-
-  -- any build of T's numbers, where there is room, gives these 54 bytes and tells of 6 labels; zeros follow
-  pub day-built : {answer : BuildAnswer} {tables : List ℕ} → AreBytes tables → BuildOf 4 6 dayNumbers work lent answer tables →
-      (answer ≡ Built 54 6) × (tables ≡ dayTables ++ replicate (lent - 54) 0)
-  day-built {answer} {tables} x b =
-      build-one x (λ i. subst (λ (y : ℕ). y < 256) (sym (zeros-after dayTables (lent - 54) i)) (are-bytes i))
-      (subst (λ (r : List ℕ). BuildOf 4 6 r work lent answer tables) numbers-are b) builds
+-- any build of T's numbers, where there is room, gives these 54 bytes and tells of 6 labels; zeros follow
+pub day-built : {work lent : ℕ} {answer : BuildAnswer} {tables : List ℕ} → buildRoom ≤ work → 54 ≤ lent → AreBytes tables → BuildOf 4 6 dayNumbers work lent answer tables →
+    (answer ≡ Built 54 6) × (tables ≡ dayTables ++ replicate (lent - 54) 0)
+day-built {work} {lent} {answer} {tables} w l x b =
+    build-one x (λ i. subst (λ (y : ℕ). y < 256) (sym (zeros-after dayTables (lent - 54) i)) (are-bytes i))
+    (subst (λ (r : List ℕ). BuildOf 4 6 r work lent answer tables) numbers-are b)
+    (good (good-numbers _ work long w none-refused)
+    (subst (λ (S : Service). BuiltOf S lent (Built 54 6) (dayTables ++ replicate (lent - 54) 0)) (sym (same-service 4 6 sixRuns 20450)) (built-of lent l)))
