@@ -1,7 +1,7 @@
 -- Laws of the output: the program's start leads to it, its steps print it line by line, and it is one.
 use Prim.Native.Nat.{ℕ, _+_, _*_, _≤_, _<_}
 use mathlib.Core.Path.{_≡_, refl, sym, ap, ap₂, subst, subst₂, _∙_}
-use mathlib.Core.List.{List, [], _∷_, _++_, append-assoc}
+use mathlib.Core.List.{List, [], _++_, append-assoc}
 use native.Mathlib.Omega.{arith}
 use lib.ListN.{length, take, replicate, length-append}
 use lib.Seq.{length-take-le}
@@ -23,7 +23,7 @@ use Rattle.answers.specs.AnswersLaws.{printed-one}
 use Rattle.output.specs.Output.{readInput, StartOf, unread, unbuilt, built, Held, LinePrints, LinesPrint, none, unfinished, line, TurnPrints, Prints, OutputOf}
 use Rattle.output.specs.InputLaws.{read-held, input-good}
 use Rattle.output.specs.Steps.{StepOf, Stands}
-use Rattle.output.specs.StepLaws.{left, mostLines, left-most, few-bytes, step-stands, step-less, step-prints, step-over}
+use Rattle.output.specs.StepLaws.{left, mostLines, left-most, few-bytes, some-bytes, step-stands, step-less, append-one, step-prints, step-first, step-over}
 use Rattle.output.specs.declared.Turn.{Turn}
 use Rattle.output.specs.declared.Stage.{Stage}
 use Rattle.output.specs.declared.Stage.the-variants.{Refused, Asks, Over}
@@ -81,12 +81,13 @@ pub record Along (t runs codes tables before : List ℕ) (first : Stage) (list :
   pub done : List ℕ
   pub count : total ≡ length done
   pub rest : (ys : List ℕ) → Prints t runs codes tables list s ys → Prints t runs codes tables before first (done ++ ys)
+  pub first-done : (xs : List ℕ) → Prints t runs codes tables before first xs → (ys : List ℕ) × Prints t runs codes tables list s ys × (xs ≡ done ++ ys)
   -- what is left cannot make the number of bytes too large
   pub bound : total + lineRoom * left (length t) s ≤ lineRoom * mostLines
 
 pub along-none : (t runs codes tables list : List ℕ) (s : Stage) → Stands t runs codes tables list s → Along t runs codes tables list s list s 0
 along-none t runs codes tables list s R =
-    record { stands = R; done = []; count = refl; rest = λ ys P. P; bound = omega (arith, left-most t runs codes tables list s R) }
+    record { stands = R; done = []; count = refl; rest = λ ys P. P; first-done = λ xs P. (xs, P, refl); bound = omega (arith, left-most t runs codes tables list s R) }
 
 module _ (t runs codes tables before list out list′ out′ : List ℕ) (first s : Stage) {total : ℕ} (D : Along t runs codes tables before first list s total) {x : Step}
     (S : StepOf t runs codes tables s list out list′ out′ x) where
@@ -112,8 +113,23 @@ module _ (t runs codes tables before list out list′ out′ : List ℕ) (first 
           count = rw length-append (ap₂ (λ (i j : ℕ). i + j) (D .count) (sym (length-take-le n out′ (omega arith))));
           rest = λ ys P. subst (Prints t runs codes tables before first) (sym (append-assoc (D .done) (take n out′) ys))
               (D .rest (take n out′ ++ ys) (step-prints t runs codes tables list out list′ out′ s (D .stands) S room n s′ e ys P));
+          first-done = λ xs P.
+              let f = D .first-done xs P in
+              let g = step-first t runs codes tables list out list′ out′ s (D .stands) S room n s′ e (f .0) (f .1) in
+              (g .0, g .1, f .2 ∙ ap (λ (l : List ℕ). D .done ++ l) (g .2) ∙ sym (append-assoc (D .done) (take n out′) (g .0)));
           bound = along-total same;
         }
+
+    -- so many bytes and this line, at least, are to be printed; and a line has bytes
+    pub along-due : lineRoom ≤ length out → length out′ ≡ length out → (0 < n) × ((xs : List ℕ) → Prints t runs codes tables before first xs → total + n ≤ length xs)
+    along-due room as-long =
+        let few = along-bytes in
+        (some-bytes t runs codes tables s list out list′ out′ S n s′ e,
+        λ xs P.
+            let f = D .first-done xs P in
+            let g = step-first t runs codes tables list out list′ out′ s (D .stands) S room n s′ e (f .0) (f .1) in
+            let l : List ℕ = take n out′ in
+            omega (arith, D .count, ap length (f .2), length-append (D .done) (f .0), ap length (g .2), length-append l (g .0), length-take-le n out′ (omega arith)))
 
   -- all that is to be printed was written
   pub along-all : x ≡ Nothing → (xs : List ℕ) × Prints t runs codes tables before first xs × (total ≡ length xs)
@@ -121,10 +137,6 @@ module _ (t runs codes tables before list out list′ out′ : List ℕ) (first 
       (D .done ++ [], D .rest [] (step-over t runs codes tables list out list′ out′ s (D .stands) S e), rw length-append (omega (arith, D .count)))
 
 -- ---- the output is one
-
-append-one : (l : List ℕ) {xs ys : List ℕ} → l ++ xs ≡ l ++ ys → xs ≡ ys
-append-one [] e = e
-append-one (x ∷ l) e = append-one l cc
 
 pub lines-one : {h : Held} {t : List ℕ} {a : ℕ} {xs ys : List ℕ} → LinesPrint h t a xs → LinesPrint h t a ys → xs ≡ ys
 lines-one (none p q) (none p′ q′) = q ∙ sym q′
