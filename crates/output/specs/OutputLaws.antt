@@ -61,17 +61,21 @@ first-turn : {h : Held} {t list other : List ℕ} {a : ℕ} {xs : List ℕ} → 
 unfolding rideLines
 first-turn P = record { left = P .left; rides = P .rides; rest = P .rest; lines = P .lines; is = P .is }
 
--- what is to be printed after the start is the output
+-- what is to be printed after the start, with the rooms that the program has
+abbrev StartPrints : List ℕ → List ℕ → List ℕ → Stage → List ℕ → Type 0
+StartPrints t tables list s xs =
+    Prints t (runsOf (readInput t runsRoom codesRoom) runsRoom) (codesOf (readInput t runsRoom codesRoom) codesRoom) tables list s xs
+
+-- is the same whatever the list holds
+start-list : {t tables : List ℕ} {s : Stage} (list other xs : List ℕ) → StartOf t runsRoom codesRoom buildRoom fileRoom tables s → StartPrints t tables list s xs → StartPrints t tables other s xs
+start-list list other xs (unread r e f z) P = rw f (rw f at P)
+start-list list other xs (unbuilt k r e b f) P = rw f (rw f at P)
+start-list list other xs (built k n labels e b f) P = rw f (first-turn (rw f at P))
+
+-- and it is the output
 module _ (t tables list : List ℕ) (s : Stage) (S : StartOf t runsRoom codesRoom buildRoom fileRoom tables s) (bytes : AreBytes tables) (xs : List ℕ) where
-  pub start-output : Prints t (runsOf (readInput t runsRoom codesRoom) runsRoom) (codesOf (readInput t runsRoom codesRoom) codesRoom) tables list s xs → OutputOf t xs
-  start-output P = record { tables = tables; bytes = bytes; stage = s; starts = S; prints = go S P }
-    where
-      go : StartOf t runsRoom codesRoom buildRoom fileRoom tables s →
-          Prints t (runsOf (readInput t runsRoom codesRoom) runsRoom) (codesOf (readInput t runsRoom codesRoom) codesRoom) tables list s xs →
-          Prints t (runsOf (readInput t runsRoom codesRoom) runsRoom) (codesOf (readInput t runsRoom codesRoom) codesRoom) tables (replicate lastMinute 0) s xs
-      go (unread r e f z) Q = rw f (rw f at Q)
-      go (unbuilt k r e b f) Q = rw f (rw f at Q)
-      go (built k n labels e b f) Q = rw f (first-turn (rw f at Q))
+  pub start-output : StartPrints t tables list s xs → OutputOf t xs
+  start-output P = record { tables = tables; bytes = bytes; stage = s; starts = S; prints = start-list list (replicate lastMinute 0) xs S P }
 
 -- ---- the steps, one after the other
 
@@ -85,9 +89,9 @@ pub record Along (t runs codes tables before : List ℕ) (first : Stage) (list :
   -- what is left cannot make the number of bytes too large
   pub bound : total + lineRoom * left (length t) s ≤ lineRoom * mostLines
 
-pub along-none : (t runs codes tables list : List ℕ) (s : Stage) → Stands t runs codes tables list s → Along t runs codes tables list s list s 0
-along-none t runs codes tables list s R =
-    record { stands = R; done = []; count = refl; rest = λ ys P. P; first-done = λ xs P. (xs, P, refl); bound = omega (arith, left-most t runs codes tables list s R) }
+pub along-none : (t runs codes tables list : List ℕ) (s : Stage) → Stands t runs codes tables list s → {total : ℕ} → total ≡ 0 → Along t runs codes tables list s list s total
+along-none t runs codes tables list s R e =
+    record { stands = R; done = []; count = e; rest = λ ys P. P; first-done = λ xs P. (xs, P, refl); bound = omega (arith, left-most t runs codes tables list s R) }
 
 module _ (t runs codes tables before list out list′ out′ : List ℕ) (first s : Stage) {total : ℕ} (D : Along t runs codes tables before first list s total) {x : Step}
     (S : StepOf t runs codes tables s list out list′ out′ x) where
@@ -104,20 +108,20 @@ module _ (t runs codes tables before list out list′ out′ : List ℕ) (first 
     along-total same =
         omega (arith, D .bound, along-bytes, along-less same)
 
-    pub along-more : length list′ ≡ length list → lineRoom ≤ length out → length out′ ≡ length out → Along t runs codes tables before first list′ s′ (total + n)
-    along-more same room as-long =
+    pub along-more : length list′ ≡ length list → lineRoom ≤ length out → length out′ ≡ length out → {more : ℕ} → total + n ≡ more → Along t runs codes tables before first list′ s′ more
+    along-more same room as-long is =
         let few = along-bytes in
         record {
           stands = step-stands t runs codes tables list out list′ out′ s (D .stands) S same n s′ e;
           done = D .done ++ take n out′;
-          count = rw length-append (ap₂ (λ (i j : ℕ). i + j) (D .count) (sym (length-take-le n out′ (omega arith))));
+          count = rw length-append (omega (arith, D .count, length-take-le n out′ (omega arith)));
           rest = λ ys P. subst (Prints t runs codes tables before first) (sym (append-assoc (D .done) (take n out′) ys))
               (D .rest (take n out′ ++ ys) (step-prints t runs codes tables list out list′ out′ s (D .stands) S room n s′ e ys P));
           first-done = λ xs P.
               let f = D .first-done xs P in
               let g = step-first t runs codes tables list out list′ out′ s (D .stands) S room n s′ e (f .0) (f .1) in
               (g .0, g .1, f .2 ∙ ap (λ (l : List ℕ). D .done ++ l) (g .2) ∙ sym (append-assoc (D .done) (take n out′) (g .0)));
-          bound = along-total same;
+          bound = omega (arith, along-total same);
         }
 
     -- so many bytes and this line, at least, are to be printed; and a line has bytes
@@ -198,10 +202,15 @@ module _ {t : List ℕ} {roomR roomC work lent : ℕ} {tables other : List ℕ} 
       let j : n ≡ n′ = cc in
       (f ∙ ap₂ (λ (c : Counts) (m : ℕ). Asks (record { stops = c .stops; runs = c .runs; text = timetableEnd t; tables = m }) (record { at = timetableEnd t; ride = 0; rides = 0 })) (sym i) j ∙ sym f′, o .1)
 
+-- the output is what is to be printed after the start
+module _ (t tables list : List ℕ) (s : Stage) (S : StartOf t runsRoom codesRoom buildRoom fileRoom tables s) (bytes : AreBytes tables) (xs : List ℕ) where
+  pub output-start : OutputOf t xs → StartPrints t tables list s xs
+  output-start O =
+      let e = start-one (O .bytes) bytes (O .starts) S in
+      start-list (replicate lastMinute 0) list xs S (subst₂ (λ (b : List ℕ) (r : Stage). StartPrints t b (replicate lastMinute 0) r xs) (e .1) (e .0) (O .prints))
+
 -- no second output is one
 pub output-one : {t xs ys : List ℕ} → OutputOf t xs → OutputOf t ys → xs ≡ ys
 output-one {t} {xs} {ys} O P =
-    let e = start-one (O .bytes) (P .bytes) (O .starts) (P .starts) in
     prints-one t (runsOf (readInput t runsRoom codesRoom) runsRoom) (codesOf (readInput t runsRoom codesRoom) codesRoom) (O .tables) (replicate lastMinute 0) (O .stage) xs ys (O .prints)
-    (subst₂ (λ (b : List ℕ) (s : Stage). Prints t (runsOf (readInput t runsRoom codesRoom) runsRoom) (codesOf (readInput t runsRoom codesRoom) codesRoom) b (replicate lastMinute 0) s ys)
-    (sym (e .1)) (sym (e .0)) (P .prints))
+    (output-start t (O .tables) (replicate lastMinute 0) (O .stage) (O .starts) (O .bytes) ys P)
