@@ -12,12 +12,14 @@ use libc::STDOUT_FILENO;
 use output::Sizes;
 use output::Stage;
 use output::Turn;
+use sending::Sent;
 ghost use mathlib.Core.Path.{_≡_};
 ghost use Prim.Native.Nat.{_+_, _≤_};
 ghost use lib.ListN.{length, take, replicate};
 ghost use Rattle.kinds.specs.Limits.{mostText, mostInput, lastMinute};
 ghost use Rattle.files.specs.Files.{ReadWithin};
 ghost use Rattle.output.specs.Steps.{Ready};
+ghost use Rattle.sending.specs.Sent.{SentFrom};
 ghost use Rattle.tables_ask.specs.Held.{heldRoom, AcceptedFor};
 
 // Room for the text and, behind it, the asks; of each one byte more than there may be, which tells what is too long.
@@ -47,9 +49,17 @@ fn read_asks(held: &mut [u8], n: usize) -> usize
 }
 
 // What the asks get, from the first line on; only accepted tables answer.
-fn answer(input: &[u8], runs: &[u32], codes: &[u32], tables: &[u8], sizes: Sizes, first: Turn)
+fn answer(
+    input: &[u8],
+    runs: &[u32],
+    codes: &[u32],
+    tables: &[u8],
+    sizes: Sizes,
+    first: Turn,
+) -> Sent
     requires { ⌜ Ready (now input) (now runs) (now codes) (now tables) (replicate lastMinute 0) sizes first ⌝ }
     requires { ⌜ AcceptedFor (now input) (now tables) sizes ⌝ }
+    ensures { λ r. ⌜ SentFrom (now (input .entry)) (now (runs .entry)) (now (codes .entry)) (now (tables .entry)) (replicate lastMinute 0) (Stage.Asks sizes first) r ⌝ }
 {
     let mut list = [0u32; Minute::LAST as usize];
     let mut out = [0u8; printed::LINE_ROOM];
@@ -61,7 +71,7 @@ fn answer(input: &[u8], runs: &[u32], codes: &[u32], tables: &[u8], sizes: Sizes
         Stage::Asks(sizes, first),
         &mut list,
         &mut out,
-    );
+    )
 }
 
 // More asks than the program holds get one answer.
