@@ -127,13 +127,14 @@ module _ (t runs codes tables before list out list′ out′ : List ℕ) (first 
     -- so many bytes and this line, at least, are to be printed; and a line has bytes
     pub along-due : lineRoom ≤ length out → length out′ ≡ length out → (0 < n) × ((xs : List ℕ) → Prints t runs codes tables before first xs → total + n ≤ length xs)
     along-due room as-long =
-        let few = along-bytes in
-        (some-bytes t runs codes tables s list out list′ out′ S n s′ e,
-        λ xs P.
-            let f = D .first-done xs P in
-            let g = step-first t runs codes tables list out list′ out′ s (D .stands) S room n s′ e (f .0) (f .1) in
-            let l : List ℕ = take n out′ in
-            omega (arith, D .count, ap length (f .2), length-append (D .done) (f .0), ap length (g .2), length-append l (g .0), length-take-le n out′ (omega arith)))
+        let few = along-bytes in (
+          some-bytes t runs codes tables s list out list′ out′ S n s′ e,
+          λ xs P.
+              let f = D .first-done xs P in
+              let g = step-first t runs codes tables list out list′ out′ s (D .stands) S room n s′ e (f .0) (f .1) in
+              let l : List ℕ = take n out′ in
+              omega (arith, D .count, ap length (f .2), length-append (D .done) (f .0), ap length (g .2), length-append l (g .0), length-take-le n out′ (omega arith)),
+        )
 
   -- all that is to be printed was written
   pub along-all : x ≡ Nothing → (xs : List ℕ) × Prints t runs codes tables before first xs × (total ≡ length xs)

@@ -229,11 +229,12 @@ module _ {t runs codes tables list : List ℕ} {z : Sizes} {p : Turn} (R : Ready
       let r = runLine (H .text) codes (runAt runs (getD list (p .ride) 0)) in
       let a = rideLines (H .text) codes runs list in
       let g : a (p .rides) ≡ a (suc (p .ride)) ++ m .0 = ap a (sym e) ∙ m .1 in
-      let left : P .left ≡ r ++ m .0 = append-one (a (p .ride)) (sym (P .rides) ∙ g ∙ append-assoc (a (p .ride)) r (m .0)) in
-      (m .0 ++ P .rest,
-      subst (λ (i : List ℕ). TurnPrints H t i (record { at = p .at; ride = p .ride + 1; rides = p .rides }) (m .0 ++ P .rest)) (sym l)
-      (record { left = m .0; rides = g ∙ ap (λ (k : ℕ). a k ++ m .0) f; rest = P .rest; lines = P .lines; is = refl }),
-      P .is ∙ ap (λ (i : List ℕ). i ++ P .rest) left ∙ append-assoc r (m .0) (P .rest))
+      let left : P .left ≡ r ++ m .0 = append-one (a (p .ride)) (sym (P .rides) ∙ g ∙ append-assoc (a (p .ride)) r (m .0)) in (
+        m .0 ++ P .rest,
+        subst (λ (i : List ℕ). TurnPrints H t i (record { at = p .at; ride = p .ride + 1; rides = p .rides }) (m .0 ++ P .rest)) (sym l)
+            (record { left = m .0; rides = g ∙ ap (λ (k : ℕ). a k ++ m .0) f; rest = P .rest; lines = P .lines; is = refl }),
+        P .is ∙ ap (λ (i : List ℕ). i ++ P .rest) left ∙ append-assoc r (m .0) (P .rest),
+      )
 
   -- and so does the first line of an answer.
   line-first : {list′ : List ℕ} (i : ℕ) (y : RidesAnswer) → pieceAt t (p .at) ≡ piece.Line i →
@@ -249,10 +250,11 @@ module _ {t runs codes tables list : List ℕ} {z : Sizes} {p : Turn} (R : Ready
       let o = gets-one (H .tables) (H .stops) (H .count) (H .runs) groundRoom (read i) (replicate lastMinute 0) (f .list) list′ (f .answer) y
       (subst (λ (k : ℕ). LineGets (H .tables) (H .stops) (H .count) (H .runs) groundRoom (read k) (replicate lastMinute 0) (f .list) (f .answer)) e (f .gets))
       (gets-lent (H .tables) (H .stops) (H .count) (H .runs) groundRoom (read i) list (replicate lastMinute 0) list′ y (R .listed ∙ sym (length-replicate {A = ℕ} lastMinute 0)) g) in
-      let m = rideLines (H .text) codes runs list′ (ridesIn y) in
-      (m ++ zs,
-      record { left = m; rides = refl; rest = zs; lines = subst (λ (k : ℕ). LinesPrint H t (k + 1) zs) e rest; is = refl },
-      is ∙ ap (λ (l : List ℕ). l ++ zs) (f .is ∙ ap₂ (λ (l : List ℕ) (a : RidesAnswer). headOf a ++ rideLines (H .text) codes runs l (ridesIn a)) (o .1) (o .0)) ∙ append-assoc (headOf y) m zs)
+      let m = rideLines (H .text) codes runs list′ (ridesIn y) in (
+        m ++ zs,
+        record { left = m; rides = refl; rest = zs; lines = subst (λ (k : ℕ). LinesPrint H t (k + 1) zs) e rest; is = refl },
+        is ∙ ap (λ (l : List ℕ). l ++ zs) (f .is ∙ ap₂ (λ (l : List ℕ) (a : RidesAnswer). headOf a ++ rideLines (H .text) codes runs l (ridesIn a)) (o .1) (o .0)) ∙ append-assoc (headOf y) m zs,
+      )
 
   module _ {out list′ out′ : List ℕ} {x : Step} (room : lineRoom ≤ length out) {n : ℕ} {s : Stage} (e : x ≡ Printed n s) where
     turn-first : TurnStep H t z p list out list′ out′ x → (xs : List ℕ) → TurnPrints H t list p xs → (ys : List ℕ) × Prints t runs codes tables list′ s ys × (xs ≡ take n out′ ++ ys)
@@ -262,9 +264,11 @@ module _ {t runs codes tables list : List ℕ} {z : Sizes} {p : Turn} (R : Ready
     turn-first (step.line i y le at g w) xs P =
         let f = line-first i y at g (lines-left le P) in
         (f .0, subst (λ i. Prints t runs codes tables list′ i (f .0)) (same-bytes (sym (w .is) ∙ e) .1) (f .1), rw (first-bytes w room n s e) (f .2))
-    turn-first (step.unfinished le at l w) xs P =
-        ([], subst (λ i. Prints t runs codes tables list′ i []) (same-bytes (sym (w .is) ∙ e) .1) refl,
-        unfinished-is at (lines-left le P) ∙ sym (first-bytes w room n s e) ∙ sym (append-nil (take n out′)))
+    turn-first (step.unfinished le at l w) xs P = (
+      [],
+      subst (λ i. Prints t runs codes tables list′ i []) (same-bytes (sym (w .is) ∙ e) .1) refl,
+      unfinished-is at (lines-left le P) ∙ sym (first-bytes w room n s e) ∙ sym (append-nil (take n out′)),
+    )
     turn-first (step.none le at l o f) xs P = let y : _≡_ {A = ℕ} 0 1 = let g = sym e ∙ f in cc in absurd (omega arith)
 
 module _ (t runs codes tables list out list′ out′ : List ℕ) {x : Step} where
@@ -280,9 +284,11 @@ module _ (t runs codes tables list out list′ out′ : List ℕ) {x : Step} whe
   -- and nothing else is
   pub step-first : (s : Stage) → Stands t runs codes tables list s → StepOf t runs codes tables s list out list′ out′ x → lineRoom ≤ length out →
       (n : ℕ) (s′ : Stage) → x ≡ Printed n s′ → (xs : List ℕ) → Prints t runs codes tables list s xs → (ys : List ℕ) × Prints t runs codes tables list′ s′ ys × (xs ≡ take n out′ ++ ys)
-  step-first (Refused r) R S room n s′ e xs P =
-      ([], subst (λ i. Prints t runs codes tables list′ i []) (same-bytes (sym (S .0 .is) ∙ e) .1) refl,
-      P ∙ sym (first-bytes (S .0) room n s′ e) ∙ sym (append-nil (take n out′)))
+  step-first (Refused r) R S room n s′ e xs P = (
+    [],
+    subst (λ i. Prints t runs codes tables list′ i []) (same-bytes (sym (S .0 .is) ∙ e) .1) refl,
+    P ∙ sym (first-bytes (S .0) room n s′ e) ∙ sym (append-nil (take n out′)),
+  )
   step-first (Asks z p) R S room n s′ e xs P = turn-first R room e S xs P
   step-first Over R S room n s′ e xs P = let y : _≡_ {A = ℕ} 0 1 = let g = sym e ∙ S .0 in cc in absurd (omega arith)
 

@@ -57,9 +57,10 @@ hand-requires : tie.Need-hand-requires Inv-loop μ-loop
 hand-requires c κs =
     let k = c .before .before in
     let n = k .before .before .before .before .before .before in
-    let i = n .before .before .before .loop .inv in
-    (omega (arith, along-bytes _ _ _ _ _ _ _ _ _ _ _ (i .0) (n .next .ensures) _ _ (k .step .given .1), i .1, n .next .kept .1 .1 .1 .1 .1 .1 .0),
-    omega (arith, along-total _ _ _ _ _ _ _ _ _ _ _ (i .0) (n .next .ensures) _ _ (k .step .given .1) (n .next .kept .1 .1 .1 .1 .1 .0)))
+    let i = n .before .before .before .loop .inv in (
+      omega (arith, along-bytes _ _ _ _ _ _ _ _ _ _ _ (i .0) (n .next .ensures) _ _ (k .step .given .1), i .1, n .next .kept .1 .1 .1 .1 .1 .1 .0),
+      omega (arith, along-total _ _ _ _ _ _ _ _ _ _ _ (i .0) (n .next .ensures) _ _ (k .step .given .1) (n .next .kept .1 .1 .1 .1 .1 .0)),
+    )
 
 enum-known-handed : tie.Need-enum-known-handed Inv-loop μ-loop
 enum-known-handed c = search needs
