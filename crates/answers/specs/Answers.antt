@@ -1,15 +1,15 @@
 -- What an ask line gets, and what is printed for it. The timetable text is s; the reader left the codes' places, the stop count, the run count and
 -- the runs' numbers; b are the bytes of the tables.
-use Prim.Native.Nat.{ℕ, zero, suc}
+use Prim.Native.Nat.{ℕ, zero, suc, _+_, _*_, _≤_, _<_}
 use mathlib.Core.Path.{_≡_}
 use mathlib.Core.List.{List, [], _++_}
-use lib.ListN.{getD}
+use lib.ListN.{length, getD}
 use Rattle.loops.specs.Zero.{zeros}
 use Rattle.kinds.specs.Refusals.{refusal}
 use Rattle.kinds.specs.declared.Code.{Code}
 use Rattle.kinds.specs.declared.Run.{Run}
 use Rattle.tables.specs.File.{tablesOf}
-use Rattle.timetable.specs.Numbers.{runAt, serviceOf}
+use Rattle.timetable.specs.Numbers.{runAt, serviceOf, GoodRunAt}
 use Rattle.lookup.specs.Lookup.{startOf, lengthOf}
 use Rattle.rides.specs.declared.RidesAnswer.{RidesAnswer}
 use Rattle.rides.specs.declared.RidesAnswer.the-variants.{At, No}
@@ -17,6 +17,7 @@ use Rattle.rides.specs.Lists.{ridesAsked, Lists}
 use Rattle.askline.specs.declared.LineRead.{LineRead}
 use Rattle.askline.specs.declared.LineRead.the-variants as line
 use Rattle.printed.specs.Printed.{atLine, rideLine, noLine}
+use Rattle.printed.specs.Wrote.{CodeIn}
 
 -- "An ill-shaped ask .. is "no 2"; after that an unknown code is "no 5"." Any other line gets what the ask with rides gets, of which the list
 -- that held `before` then holds `after`; a refusal leaves zeros.
@@ -58,3 +59,15 @@ pub record PrintedAsk (s codes : List ℕ) (b : List ℕ) (stops count : ℕ) (r
   pub list : List ℕ
   pub gets : LineGets b stops count runs lent read before list answer
   pub is : xs ≡ printedFor s codes runs list answer
+
+-- the code of stop j is in the list and stands in the text
+pub record Named (s codes : List ℕ) (j : ℕ) : Type 0 where
+  pub listed : 2 * j + 2 ≤ length codes
+  pub code : CodeIn s (codeAt codes j)
+
+-- ride k of the list is a good run, and its stops have codes
+pub record Ridden (s codes runs list : List ℕ) (k : ℕ) : Type 0 where
+  pub within : k < length list
+  pub run : GoodRunAt runs (getD list k 0)
+  pub from : Named s codes (runAt runs (getD list k 0) .from)
+  pub to : Named s codes (runAt runs (getD list k 0) .to)

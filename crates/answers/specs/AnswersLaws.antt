@@ -19,7 +19,7 @@ use Rattle.timetable.specs.Numbers.{runAt, serviceOf, GoodRunAt}
 use Rattle.timetable.specs.NumbersLaws.{service-slots}
 use Rattle.words.specs.Words.{isCode}
 use Rattle.lookup.specs.Lookup.{startOf, lengthOf}
-use Rattle.reader.specs.TextLaws.{GoodRead}
+use Rattle.reader.specs.Text.{GoodRead}
 use Rattle.asks.specs.declared.AskRead.{AskRead}
 use Rattle.asks.specs.declared.AskRead.the-variants as ask
 use Rattle.rides.specs.declared.RidesAnswer.{RidesAnswer}
@@ -29,7 +29,7 @@ use Rattle.rides.specs.ListsLaws.{lists-one, lists-lent}
 use Rattle.askline.specs.declared.LineRead.{LineRead}
 use Rattle.askline.specs.declared.LineRead.the-variants as line
 use Rattle.printed.specs.Wrote.{CodeIn}
-use Rattle.answers.specs.Answers.{LineGets, ridesIn, codeAt, printedFor, PrintedAsk}
+use Rattle.answers.specs.Answers.{LineGets, ridesIn, codeAt, printedFor, PrintedAsk, Named, Ridden}
 
 -- ---- a line prints one text
 pub gets-one : (b : List ℕ) (stops count : ℕ) (runs : List ℕ) (lent : ℕ) (read : LineRead) (before m n : List ℕ) (x y : RidesAnswer) →
@@ -52,18 +52,6 @@ gets-lent b stops count runs lent (line.Asked q) before other after x n f =
     lists-lent (serviceOf stops count runs) (tablesOf b) (ridesAsked b stops count runs lent (q .from) (q .to) (q .wanted)) before other after x n f
 
 -- ---- every listed ride can be printed
-
--- the code of stop j is in the list and stands in the text
-pub record Named (s codes : List ℕ) (j : ℕ) : Type 0 where
-  pub listed : 2 * j + 2 ≤ length codes
-  pub code : CodeIn s (codeAt codes j)
-
--- ride k of the list is a good run, and its stops have codes
-pub record Ridden (s codes runs list : List ℕ) (k : ℕ) : Type 0 where
-  pub within : k < length list
-  pub run : GoodRunAt runs (getD list k 0)
-  pub from : Named s codes (runAt runs (getD list k 0) .from)
-  pub to : Named s codes (runAt runs (getD list k 0) .to)
 
 code-short : (s : List ℕ) (a n : ℕ) → isCode s a n ≡ true → n ≤ mostCode
 unfolding isCode isCodeLength

@@ -7,13 +7,12 @@ ghost use mathlib.Core.Path.{_≡_};
 ghost use Prim.Native.Nat.{_+_, _*_, _≤_};
 ghost use lib.ListN.{length, getD};
 ghost use Rattle.loops.specs.Zero.{zeros};
-ghost use Rattle.lookup.specs.LookupLaws.{Placed};
+ghost use Rattle.lookup.specs.Lookup.{Placed};
 ghost use Rattle.timetable.specs.Numbers.{runAt};
 ghost use Rattle.askline.specs.AskLine.{askLine};
 ghost use Rattle.printed.specs.Printed.{lineRoom};
 ghost use Rattle.printed.specs.Wrote.{Wrote};
-ghost use Rattle.answers.specs.Answers.{LineGets, headOf, codeAt, runLine};
-ghost use Rattle.answers.specs.AnswersLaws.{Ridden};
+ghost use Rattle.answers.specs.Answers.{LineGets, headOf, codeAt, runLine, Ridden};
 
 // What the line of the input from `from` up to `to` gets; its rides are in the list.
 pub fn answer(

@@ -6,7 +6,7 @@ use words::NumberRead;
 ghost use mathlib.Core.Path.{_≡_};
 ghost use Prim.Native.Nat.{_+_, _≤_, _<_};
 ghost use lib.ListN.{length};
-ghost use Rattle.lookup.specs.LookupLaws.{Placed};
+ghost use Rattle.lookup.specs.Lookup.{Placed};
 ghost use Rattle.words.specs.Words.{isWordB};
 ghost use Rattle.lines.specs.Lines.{endWord};
 ghost use Rattle.askline.specs.AskLine.{lastNumber, shortAt, minutesAt, shapeAt, shapeOf, askLine};

@@ -1,7 +1,8 @@
 -- The three asks over a tables file: what is refused, and what is answered.
-use Prim.Native.Nat.{ℕ}
+use Prim.Native.Nat.{ℕ, _<_}
 use mathlib.Core.Path.{_≡_}
 use mathlib.Core.List.{List}
+use mathlib.Core.Logic.{_≢_}
 use mathlib.Core.Bool.{cond}
 use lib.Dec.{ltb, eqb}
 use Rattle.kinds.specs.Refusals.{stopHigh, sameStop, minuteHigh, minutesCrossed, noJourney, refusal}
@@ -19,6 +20,7 @@ use Rattle.tables.specs.declared.TablesRead.the-variants as tables
 use Rattle.tables.specs.Judged.{judgedTables}
 use Rattle.asks.specs.declared.Wanted.{Wanted}
 use Rattle.asks.specs.declared.Wanted.the-variants as wanted
+use Rattle.asks.specs.declared.Asked.{Asked}
 use Rattle.asks.specs.declared.AskRead.{AskRead}
 use Rattle.asks.specs.declared.AskRead.the-variants as ask
 use Rattle.asks.specs.declared.MinutesRead.{MinutesRead}
@@ -58,12 +60,26 @@ ifTables (tables.No r) f = ask.No r
 unfoldable pub asked : List ℕ → ℕ → ℕ → Wanted → AskRead
 asked b from to w = ifTables (judgedTables b) (λ n. askRead n from to w)
 
--- the best by the ask's criterion among the pairs of P, or 16 where none of them fits; what is out of order is refused
+-- the best of the pairs P by the criterion, or 16 and none of them fits
+abbrev pub Gets : (ℕ → ℕ → Type 0) → Criterion → Answer → Type 0
+Gets P c (At j) = Best P c (j .dep) (j .arr)
+Gets P c (No r) = (r ≡ refusal noJourney 0) × Nothing P c
+
+-- an ask that is in order gets the best of the pairs between its stops; what is out of order is refused
 abbrev pub AnswersBy : (ℕ → ℕ → ℕ → ℕ → Type 0) → AskRead → Answer → Type 0
 AnswersBy P (ask.No r) x = x ≡ No r
-AnswersBy P (ask.Good q) (At j) = Best (P (q .from) (q .to)) (q .criterion) (j .dep) (j .arr)
-AnswersBy P (ask.Good q) (No r) = (r ≡ refusal noJourney 0) × Nothing (P (q .from) (q .to)) (q .criterion)
+AnswersBy P (ask.Good q) x = Gets (P (q .from) (q .to)) (q .criterion) x
 
 -- "The answer over the tables is the best sketch by the rules above", or 16 where there is none
 abbrev pub Answers : Tables → AskRead → Answer → Type 0
 Answers T q x = AnswersBy (Sketch T) q x
+
+-- "two different stops" of n
+pub record TwoStops (n from to : ℕ) : Type 0 where
+  pub from-stop : from < n
+  pub to-stop : to < n
+  pub apart : from ≢ to
+
+-- an ask that is in order has such stops
+abbrev pub GoodAsk : ℕ → Asked → Type 0
+GoodAsk n q = TwoStops n (q .from) (q .to)

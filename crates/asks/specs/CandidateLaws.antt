@@ -9,7 +9,8 @@ use Rattle.loops.specs.Decide.{dec-or, dec-then}
 use Rattle.loops.specs.First.{FirstAt}
 use Rattle.loops.specs.FirstLaws.{passed-none, first-one, first-at}
 use Rattle.journeys.specs.declared.Criterion.{Criterion}
-use Rattle.journeys.specs.PairLaws.{Within, itself}
+use Rattle.journeys.specs.Journey.{Within}
+use Rattle.journeys.specs.PairLaws.{itself}
 use Rattle.journeys.specs.Tables.{outs, ins, Tables, Entry, of-out, of-in, GoodTables, Sketch, single, joined}
 use Rattle.journeys.specs.SketchLaws.{entry-at}
 use Rattle.asks.specs.declared.Found.{Found}

@@ -11,7 +11,7 @@ use Rattle.journeys.specs.declared.Criterion.{Criterion}
 use Rattle.journeys.specs.declared.Criterion.the-variants.{Early, Late, Short}
 use Rattle.journeys.specs.Criteria.{Fits, Better, Best, Nothing}
 use Rattle.journeys.specs.CriteriaLaws.{best-up, nothing-same, never-better, better-trans}
-use Rattle.journeys.specs.PairLaws.{Within}
+use Rattle.journeys.specs.Journey.{Within}
 use Rattle.asks.specs.declared.Journey.{Journey}
 use Rattle.asks.specs.declared.Found.{Found}
 use Rattle.asks.specs.declared.Found.the-variants as found

@@ -5,4 +5,6 @@ pub mod CandidateLaws
 pub mod Join
 pub mod JoinLaws
 pub mod Asks
+pub mod Permitted
+pub mod PermittedLaws
 pub mod AskLaws

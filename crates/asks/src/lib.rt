@@ -19,8 +19,7 @@ ghost use Rattle.asks.specs.Candidates.{Past, FromOuts};
 ghost use Rattle.tables.specs.Good.{GoodFile};
 ghost use Rattle.asks.specs.declared.AskRead.the-variants as ask;
 ghost use Rattle.asks.specs.declared.Wanted.the-variants as wanted;
-ghost use Rattle.asks.specs.Asks.{minutesRead, askRead, asked, Answers};
-ghost use Rattle.asks.specs.AskLaws.{GoodAsk};
+ghost use Rattle.asks.specs.Asks.{minutesRead, askRead, asked, Answers, GoodAsk};
 ghost use Rattle.asks.specs.Join.{Sets, pastB, OutTurn, OutsTo, InsTo, inTurn};
 
 // A journey by its time pair.

@@ -10,9 +10,9 @@ use Rattle.journeys.specs.Service.{Service, GoodService}
 use Rattle.journeys.specs.RuleLaws.{by-rule-same}
 use Rattle.journeys.specs.Count.{RuleCount}
 use Rattle.journeys.specs.CountLaws.{pairs-one, rule-count-one}
-use Rattle.tables.specs.File.{placeOf, tablesOf}
+use Rattle.tables.specs.File.{placeOf, tablesOf, AreBytes}
 use Rattle.tables.specs.GoodLaws.{good-judged}
-use Rattle.tables.specs.OneFile.{AreBytes, SameLabels, one-file}
+use Rattle.tables.specs.OneFile.{SameLabels, one-file}
 use Rattle.counts.specs.SumLaws.{sum-same}
 use Rattle.counts.specs.Sets.{SetsTo, CountedAll}
 use Rattle.builder.specs.Contents.{Sized}

@@ -9,7 +9,7 @@ use native.Mathlib.Omega.{arith}
 use native.Mathlib.Decide.{ℕ-discrete, decLt}
 use Rattle.loops.specs.Rows.{Among}
 use Rattle.kinds.specs.Limits.{mostStops, mostLabels, noPivot}
-use Rattle.kinds.specs.KindsLaws.{GoodPivot}
+use Rattle.kinds.specs.Kinds.{GoodPivot}
 use Rattle.journeys.specs.Service.{Service, GoodService}
 use Rattle.journeys.specs.Tables.{Side, outs, ins, Entry}
 use Rattle.journeys.specs.Rule.{Pivot, by-stop, Rule, ByRule}

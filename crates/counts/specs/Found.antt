@@ -7,8 +7,7 @@ use mathlib.Core.Bool.{Bool, true, false, cond}
 use lib.Dec.{eqb, leb, ltb}
 use Rattle.kinds.specs.Limits.{noPivot, lastMinute, unreached}
 use Rattle.journeys.specs.Service.{Service}
-use Rattle.journeys.specs.Journey.{Journey}
-use Rattle.journeys.specs.PairLaws.{Within}
+use Rattle.journeys.specs.Journey.{Journey, Within}
 use Rattle.scan.specs.Events.{InForce}
 use Rattle.scan.specs.Ordered.{read}
 use Rattle.scan.specs.Lists.{cellsOf}

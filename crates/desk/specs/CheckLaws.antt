@@ -38,6 +38,7 @@ use Rattle.verdict.specs.declared.Verdict.the-variants.{No}
 use Rattle.ground.specs.Ground.{groundRoom, judgedBoth}
 use Rattle.verdict.specs.Verdict.{Outcome, unsupported-at, gap-at, all-well, Answered, Checked}
 use Rattle.ground.specs.GroundLaws.{both-good}
+use Rattle.desk.specs.Spelled.{BadPlace}
 
 -- ---- what is refused before tables and timetable are compared is neither 19 nor 20
 
@@ -172,11 +173,6 @@ plain-contents b =
 plain-tables : (b : List ℕ) → PlainIn (judgedTables b)
 unfolding judgedTables
 plain-tables b = either PlainIn (leb headerBytes (length b)) (either PlainIn (eqb (getD b 0 0) formatMark) (either PlainIn (isStopCount (stopsOf b)) (plain-contents b) refl) refl) refl
-
--- label k of a file that has room for just its labels
-pub record BadPlace (b : List ℕ) (k : ℕ) : Type 0 where
-  pub room : Room b (stopsOf b)
-  pub label : k < labelsOf b
 
 bad-place : (b : List ℕ) (r : Refusal) → judgedTables b ≡ tables.No r → r .number ≡ labelBad → BadPlace b (r .place)
 bad-place b r e h =

@@ -1,5 +1,5 @@
 -- What the check's refusals name, spelled out. The timetable text is s; the reader left the codes' places and the runs' numbers; T are the tables.
-use Prim.Native.Nat.{ℕ}
+use Prim.Native.Nat.{ℕ, _<_}
 use mathlib.Core.Path.{_≡_}
 use mathlib.Core.Logic.{_≢_}
 use mathlib.Core.List.{List, [], _++_}
@@ -9,8 +9,10 @@ use lib.Dec.{ltb}
 use Rattle.kinds.specs.Refusals.{labelBad, unsupported, gap}
 use Rattle.kinds.specs.declared.Refusal.{Refusal}
 use Rattle.journeys.specs.Tables.{Side, outs, ins, Tables, Entry, LabelAt}
-use Rattle.timetable.specs.Numbers.{runAt}
-use Rattle.answers.specs.Answers.{codeAt}
+use Rattle.tables.specs.File.{stopsOf, labelsOf}
+use Rattle.tables.specs.Good.{Room, GoodFile}
+use Rattle.timetable.specs.Numbers.{runAt, GoodRunAt}
+use Rattle.answers.specs.Answers.{codeAt, Named}
 use Rattle.report.specs.Lines.{labelLine, entryLine, runLine, stopLine}
 use Rattle.report.specs.declared.Change.{Change}
 use Rattle.report.specs.declared.Change.the-variants.{Direct, At}
@@ -66,3 +68,27 @@ pub data Spelled (T : Tables) (s codes runs : List ℕ) (stops : ℕ) (r : Refus
   a-label : r .number ≡ unsupported → LabelSpelled T s codes (r .place) xs → Spelled T s codes runs stops r xs
   a-gap : r .number ≡ gap → xs ≡ runSpelled s codes runs (r .place) ++ stopSpelled s codes (r .stop) → Spelled T s codes runs stops r xs
   nothing : r .number ≢ labelBad → r .number ≢ unsupported → r .number ≢ gap → xs ≡ [] → Spelled T s codes runs stops r xs
+
+-- label k of a file that has room for just its labels
+pub record BadPlace (b : List ℕ) (k : ℕ) : Type 0 where
+  pub room : Room b (stopsOf b)
+  pub label : k < labelsOf b
+
+-- each stop has a code
+pub record AllNamed (s codes : List ℕ) (n : ℕ) : Type 0 where
+  pub stop : (j : ℕ) → j < n → Named s codes j
+
+-- run i, and its stops
+pub record RunNamed (s codes runs : List ℕ) (i : ℕ) : Type 0 where
+  pub run : GoodRunAt runs i
+  pub from : Named s codes (runAt runs i .from)
+  pub to : Named s codes (runAt runs i .to)
+
+-- what the refusal names, in tables of n stops
+pub record Spellable (b s codes runs : List ℕ) (n : ℕ) (r : Refusal) : Type 0 where
+  pub names : AllNamed s codes n
+  pub bad : r .number ≡ labelBad → BadPlace b (r .place)
+  pub file : r .number ≡ unsupported → GoodFile b n
+  pub label : r .number ≡ unsupported → r .place < labelsOf b
+  pub run : r .number ≡ gap → RunNamed s codes runs (r .place)
+  pub stop : r .number ≡ gap → r .stop < n

@@ -17,11 +17,12 @@ use Rattle.tables.specs.FileLaws.{start-none, start-more}
 use Rattle.tables.specs.Good.{Room, GoodFile}
 use Rattle.tables.specs.TablesLaws.{pivot-none, pivot-some, good-stops, room-entry, entry-only, good-tables}
 use Rattle.timetable.specs.Numbers.{runAt, GoodRunAt}
-use Rattle.reader.specs.TextLaws.{GoodRead}
-use Rattle.answers.specs.AnswersLaws.{Named, named-all}
+use Rattle.reader.specs.Text.{GoodRead}
+use Rattle.answers.specs.Answers.{Named}
+use Rattle.answers.specs.AnswersLaws.{named-all}
 use Rattle.report.specs.Lines.{ChangeIn, entryLine}
-use Rattle.desk.specs.Spelled.{changeAt, stopSpelled, sideOf, pivotSaid, BadSpelled}
-use Rattle.desk.specs.CheckLaws.{BadPlace, Places}
+use Rattle.desk.specs.Spelled.{changeAt, stopSpelled, sideOf, pivotSaid, BadSpelled, BadPlace, AllNamed, Spellable}
+use Rattle.desk.specs.CheckLaws.{Places}
 
 module _ (b : List ℕ) where
   pub outs-first : tablesOf b .start outs 0 ≡ 0
@@ -117,10 +118,6 @@ module _ {b : List ℕ} {n : ℕ} (g : GoodFile b n) {k u v d a : ℕ} where
 
 -- ---- what can be spelled out
 
--- each stop has a code
-pub record AllNamed (s codes : List ℕ) (n : ℕ) : Type 0 where
-  pub stop : (j : ℕ) → j < n → Named s codes j
-
 pub change-in : {s codes : List ℕ} {n : ℕ} → AllNamed s codes n → (q : ℕ) → (q ≡ noPivot) ⊎ (q < n) → ChangeIn s (changeAt codes (pivotOf q))
 change-in {s} {codes} a q (inl e) = rw (pivot-none q e) tt
 change-in {s} {codes} {n} a q (inr lt) = go (ℕ-discrete q noPivot)
@@ -128,21 +125,6 @@ change-in {s} {codes} {n} a q (inr lt) = go (ℕ-discrete q noPivot)
     go : Dec (q ≡ noPivot) → ChangeIn s (changeAt codes (pivotOf q))
     go (yes e) = rw (pivot-none q e) tt
     go (no e) = rw (pivot-some q e) (a .stop q lt .code)
-
--- run i, and its stops
-pub record RunNamed (s codes runs : List ℕ) (i : ℕ) : Type 0 where
-  pub run : GoodRunAt runs i
-  pub from : Named s codes (runAt runs i .from)
-  pub to : Named s codes (runAt runs i .to)
-
--- what the refusal names, in tables of n stops
-pub record Spellable (b s codes runs : List ℕ) (n : ℕ) (r : Refusal) : Type 0 where
-  pub names : AllNamed s codes n
-  pub bad : r .number ≡ labelBad → BadPlace b (r .place)
-  pub file : r .number ≡ unsupported → GoodFile b n
-  pub label : r .number ≡ unsupported → r .place < labelsOf b
-  pub run : r .number ≡ gap → RunNamed s codes runs (r .place)
-  pub stop : r .number ≡ gap → r .stop < n
 
 pub spellable : {s b codes runs : List ℕ} {roomR roomC stops count : ℕ} {r : Refusal} → runsRoom ≤ roomR → GoodRead s roomR roomC stops count runs codes →
     Places b stops count r → Spellable b s codes runs stops r

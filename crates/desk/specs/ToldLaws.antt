@@ -11,8 +11,8 @@ use Rattle.kinds.specs.Limits.{runsRoom, codesRoom, mostStops, mostText}
 use Rattle.kinds.specs.declared.Refusal.{Refusal}
 use Rattle.reader.specs.declared.Counts.{Counts}
 use Rattle.reader.specs.declared.ReadAnswer.the-variants as read
-use Rattle.reader.specs.Text.{Sofar, Outcome, whole, bad, readText, answerOf, runsOf, codesOf}
-use Rattle.reader.specs.TextLaws.{GoodRead, text-good}
+use Rattle.reader.specs.Text.{Sofar, Outcome, whole, bad, readText, answerOf, runsOf, codesOf, GoodRead}
+use Rattle.reader.specs.TextLaws.{text-good}
 use Rattle.tables.specs.File.{tablesOf, placeOf}
 use Rattle.verdict.specs.declared.Verdict.{Verdict}
 use Rattle.verdict.specs.declared.Verdict.the-variants as verdict
@@ -24,9 +24,9 @@ use Rattle.journeys.specs.Service.{Service}
 use Rattle.printed.specs.Wrote.{Wrote}
 use Rattle.report.specs.Words.{refusalLine}
 use Rattle.report.specs.Lines.{acceptedLine, writtenLine}
-use Rattle.desk.specs.Spelled.{Spelled}
+use Rattle.desk.specs.Spelled.{Spelled, Spellable}
 use Rattle.desk.specs.CheckLaws.{checked-places}
-use Rattle.desk.specs.SpelledLaws.{Spellable, spellable}
+use Rattle.desk.specs.SpelledLaws.{spellable}
 use Rattle.desk.specs.Told as told
 use Rattle.desk.specs.Told.{Refused, by-check, Accepts, AdmitOf, admits, refuses, CheckTold}
 use Rattle.desk.specs.declared.Admitted.{Admitted}

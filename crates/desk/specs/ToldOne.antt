@@ -6,8 +6,7 @@ use native.Mathlib.Omega.{arith}
 use Rattle.kinds.specs.declared.Refusal.{Refusal}
 use Rattle.reader.specs.Text.{Sofar, Outcome, whole, bad}
 use Rattle.reader.specs.declared.Counts.{Counts}
-use Rattle.tables.specs.File.{tablesOf}
-use Rattle.tables.specs.OneFile.{AreBytes}
+use Rattle.tables.specs.File.{tablesOf, AreBytes}
 use Rattle.verdict.specs.declared.Verdict.the-variants as verdict
 use Rattle.verdict.specs.Verdict.{Checked}
 use Rattle.verdict.specs.VerdictLaws.{checked-one}

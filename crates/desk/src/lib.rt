@@ -25,13 +25,11 @@ ghost use Rattle.tables.specs.File.{tablesOf, fileRoom, labelsOf, labelAt, pivo
 ghost use Rattle.tables.specs.Judged.{judgedTables};
 ghost use Rattle.tables.specs.Good.{Room, GoodFile};
 ghost use Rattle.reader.specs.Text.{readText, runsOf, codesOf};
-ghost use Rattle.answers.specs.AnswersLaws.{Named};
+ghost use Rattle.answers.specs.Answers.{Named};
 ghost use Rattle.printed.specs.Wrote.{Wrote};
 ghost use Rattle.report.specs.Lines.{lineRoom};
 ghost use Rattle.report.specs.Words.{refusalLine};
-ghost use Rattle.desk.specs.Spelled.{changeAt, LabelSpelled, sideOf, pivotSaid, BadSpelled, runSpelled, stopSpelled, Spelled};
-ghost use Rattle.desk.specs.CheckLaws.{BadPlace};
-ghost use Rattle.desk.specs.SpelledLaws.{AllNamed, RunNamed, Spellable};
+ghost use Rattle.desk.specs.Spelled.{changeAt, LabelSpelled, sideOf, pivotSaid, BadSpelled, runSpelled, stopSpelled, Spelled, BadPlace, AllNamed, RunNamed, Spellable};
 ghost use Rattle.ground.specs.Ground.{groundRoom};
 ghost use Rattle.desk.specs.Told.{toldRoom, before, AdmitOf, AdmitShort, CheckTold, BuildTold, MadeShort};
 

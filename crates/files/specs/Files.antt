@@ -4,7 +4,7 @@ use mathlib.Core.List.{List, [], _∷_, _++_}
 use mathlib.Core.Bool.{Bool, false, cond}
 use lib.Dec.{eqb, leb}
 use Rattle.printed.specs.Printed.{digit}
-use Rattle.report.specs.Texts.{bytes}
+use Rattle.words.specs.Bytes.{bytes}
 use Rattle.files.specs.declared.FileRead.{FileRead}
 use Rattle.files.specs.declared.FileRead.the-variants.{Read, No}
 use Rattle.files.specs.declared.Part.{Part}

@@ -7,7 +7,7 @@ use native.Mathlib.Decide.{decLt}
 use lib.ListN.{length, getD, take, drop, length-drop, drop-of-length-le}
 use lib.Dec.{eqb}
 use lib.Seq.{take-all, length-take-le, getD-take, getD-drop, getD-append-add, ext-getD}
-use borrow.Author.Tests.{eqb-true}
+use borrow.Author.Tests.{eqb-true, eq-eqb}
 use borrow.Rule.Slice.PartMut.{putMid, midOf, take-put, same-len-mid}
 use Rattle.loops.specs.Chain.{stays}
 use Rattle.loops.specs.Filled.{filled}
@@ -54,6 +54,10 @@ both-good b stops count list lent n e =
     let z = by-both (judgedTables b) (judgedOf stops count list lent groundRoom) stops n e in
     let g = timetable.judged-good stops count list lent groundRoom (z .1) in
     record { same = z .2; file = file.judged-good b n (z .0); numbers = subst (λ (m : ℕ). GoodNumbers m count list) (sym (z .2)) (g .0); room = g .1 }
+
+pub judged-both : (b : List ℕ) (stops count : ℕ) (list : List ℕ) (lent : ℕ) → judgedTables b ≡ tables.Good stops → GoodNumbers stops count list → groundRoom ≤ lent →
+    judgedBoth (judgedTables b) (judgedOf stops count list lent groundRoom) stops ≡ tables.Good stops
+judged-both b stops count list lent e g h = rw (e, timetable.numbers-judged stops count list lent groundRoom g h, eq-eqb stops stops refl) refl
 
 -- ---- a part of the room from one place to its end, as it is lent and as it comes back
 

@@ -3,8 +3,7 @@ use Prim.Native.Nat.{ℕ}
 use mathlib.Core.Path.{_≡_, sym, subst₂}
 use mathlib.Core.List.{List}
 use Rattle.kinds.specs.Limits.{runsRoom, codesRoom}
-use Rattle.tables.specs.File.{fileRoom}
-use Rattle.tables.specs.OneFile.{AreBytes}
+use Rattle.tables.specs.File.{fileRoom, AreBytes}
 use Rattle.reader.specs.Text.{runsOf, codesOf}
 use Rattle.builder.specs.Build.{buildRoom}
 use Rattle.output.specs.declared.Stage.{Stage}

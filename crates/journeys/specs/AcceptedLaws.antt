@@ -4,6 +4,7 @@ use mathlib.Core.Path.{_≡_, refl, sym, subst, _∙_}
 use mathlib.Core.Logic.{_≢_, _↔_}
 use mathlib.Core.Option.{Option, none, some}
 use mathlib.Core.Bool.{true}
+use mathlib.Core.List.{[]}
 use Prim.Native.Nat.{ℕ, zero, suc, _+_, _≤_, _<_}
 use native.Mathlib.Nat.{le-refl}
 use native.Mathlib.Omega.{arith}
@@ -13,15 +14,15 @@ use Rattle.kinds.specs.Limits.{lastMinute}
 use Rattle.journeys.specs.declared.Criterion.{Criterion}
 use Rattle.journeys.specs.declared.Criterion.the-variants.{Early}
 use Rattle.journeys.specs.Service.{Service, RideAt, GoodService}
-use Rattle.journeys.specs.Journey.{Journey, one, more}
+use Rattle.journeys.specs.Journey.{Journey, one, more, rides, Within}
 use Rattle.journeys.specs.Criteria.{Best, Answer, Nothing}
-use Rattle.journeys.specs.Tables.{Side, outs, ins, Tables, Entry, LabelAt, of-out, of-in, Label, GoodTables, Sketch, single, joined}
-use Rattle.journeys.specs.Check.{Halves, Supported, SupportedAt, AllSupported, NoGap, NoGapAt, NoGaps, Accepted}
-use Rattle.journeys.specs.PairLaws.{Within, itself, wider}
+use Rattle.journeys.specs.Tables.{Side, outs, ins, Tables, Entry, LabelAt, of-out, of-in, Label, GoodTables, Sketch, single, joined, LabelWith}
+use Rattle.journeys.specs.Check.{Halves, Supported, SupportedAt, AllSupported, NoGap, NoGapAt, NoGaps, Accepted, Unsupported, Missed}
+use Rattle.journeys.specs.PairLaws.{itself, wider}
 use Rattle.journeys.specs.CriteriaLaws.{best-same, nothing-same, early-best, early-least, early-within}
 use Rattle.journeys.specs.JourneyLaws.{join, journey-later, ride-to}
 use Rattle.journeys.specs.ReachLaws.{dec-true, dec-some-ride}
-use Rattle.journeys.specs.SketchLaws.{entry-at, label-later, one-by-dep, one-by-arr, sketch-later, sketch-last, sketch-to, dec-sketch, LabelWith, dec-label}
+use Rattle.journeys.specs.SketchLaws.{entry-at, label-later, one-by-dep, one-by-arr, sketch-later, sketch-last, sketch-to, dec-sketch, dec-label}
 
 -- L2: a supported label has a journey with exactly its pair, by the label's duration; so has each sketch
 module _ {S : Service} {T : Tables} (good : GoodTables T) (sup : AllSupported S T) where
@@ -97,47 +98,43 @@ module _ {S : Service} (G : GoodService S) {T : Tables} (good : GoodTables T) (s
   pub accepted-nothing : Nothing (Sketch T u v) c ↔ Nothing (Journey S u v) c
   accepted-nothing = nothing-same (Sketch T u v) (Journey S u v) (λ e b s. sketch-sound good (ok .supported) s) (λ e b j. complete G good same (ok .no-gaps) j (λ q. apart (sym q))) c
 
--- refusal 20 names a real fault: a journey u to v that no sketch weakly dominates
-pub record Missed (S : Service) (T : Tables) (i v : ℕ) : Type 0 where
-  pub from : ℕ
-  pub dep : ℕ
-  pub arr : ℕ
-  pub other : v ≢ from
-  pub way : Journey S from v dep arr
-  pub lost : ¬ (Within (Sketch T from v) dep arr)
-
 module _ {S : Service} {T : Tables} (good : GoodTables T) where
   -- a gap at a ride is found by two questions
-  gap-missed : AllSupported S T → {i u x d a v : ℕ} → RideAt S i u x d a → v ≢ u → ¬ (NoGap T u x d a v) → Missed S T i v
-  gap-missed sup {i} {u} {x} {d} {a} {v} r n f = go (ℕ-discrete v x)
+  gap-missed : AllSupported S T → {i v : ℕ} → RideAt S i (S .ride i .from) (S .ride i .to) (S .ride i .dep) (S .ride i .arr) → v ≢ S .ride i .from →
+      ¬ (NoGap T (S .ride i .from) (S .ride i .to) (S .ride i .dep) (S .ride i .arr) v) → Missed S T i v
+  unfolding rides
+  gap-missed sup {i} {v} r n f = go (ℕ-discrete v (S .ride i .to))
     where
-      far : v ≢ x → Dec (Within (Sketch T x v) a lastMinute) → Missed S T i v
+      far : v ≢ S .ride i .to → Dec (Within (Sketch T (S .ride i .to) v) (S .ride i .arr) lastMinute) → Missed S T i v
       far m (no q) = absurd (f (record { here = λ e. absurd (m e); on = λ _ B. absurd (q (early-within B (sketch-last good (B .dep) (B .arr) (B .best .has)))) }))
       far m (yes w) = at (sketch-early good w .0)
         where
-          at : Answer (Sketch T x v) (Early a) → Missed S T i v
+          at : Answer (Sketch T (S .ride i .to) v) (Early (S .ride i .arr)) → Missed S T i v
           at B = record {
-            from = u;
-            dep = d;
             arr = B .arr;
             other = n;
             way = more i r (B .best .fits) (sketch-sound good sup (B .best .has));
+            rest = rides (sketch-sound good sup (B .best .has));
+            begins = refl;
             lost = λ w. f (no-gap-iff good .1 (record {
               here = λ e. absurd (m e);
-              on = λ _ c e s h. wider w (le-refl d) (early-least B c e s h);
+              on = λ _ c e s h. wider w (le-refl (S .ride i .dep)) (early-least B c e s h);
             }));
           }
 
-      go : Dec (v ≡ x) → Missed S T i v
+      go : Dec (v ≡ S .ride i .to) → Missed S T i v
       go (yes e) = record {
-        from = u;
-        dep = d;
-        arr = a;
+        arr = S .ride i .arr;
         other = n;
-        way = subst (λ y. Journey S u y d a) (sym e) (one i r);
-        lost = λ w. f (no-gap-iff good .1 (record { here = λ _. subst (λ y. Within (Sketch T u y) d a) e w; on = λ m. absurd (m e) }));
+        way = one i (record { below = r .below; forced = r .forced; goes = refl; ends = sym e; leaves = refl; arrives = refl });
+        rest = [];
+        begins = refl;
+        lost = λ w. f (no-gap-iff good .1 (record {
+          here = λ _. subst (λ y. Within (Sketch T (S .ride i .from) y) (S .ride i .dep) (S .ride i .arr)) e w;
+          on = λ m. absurd (m e);
+        }));
       }
-      go (no m) = far m (dec-sketch T x v a lastMinute)
+      go (no m) = far m (dec-sketch T (S .ride i .to) v (S .ride i .arr) lastMinute)
 
   pub gap-real : AllSupported S T → {i v : ℕ} → ¬ (NoGapAt S T i v) → Missed S T i v
   gap-real sup {i} {v} f = in-range (decLt i (S .slots)) (dec-true (S .in-force i))
@@ -150,16 +147,6 @@ module _ {S : Service} {T : Tables} (good : GoodTables T) where
       in-range (yes h) (yes e) = at (record { below = h; forced = e; goes = refl; ends = refl; leaves = refl; arrives = refl }) (ℕ-discrete v (S .ride i .from))
       in-range (no h) e = absurd (f (λ u x d a q n. absurd (h (q .below))))
       in-range (yes h) (no e) = absurd (f (λ u x d a q n. absurd (e (q .forced))))
-
--- refusal 19 names a real fault: a label that has no support
-pub record Unsupported (S : Service) (T : Tables) (k : ℕ) : Type 0 where
-  pub from : ℕ
-  pub to : ℕ
-  pub dep : ℕ
-  pub arr : ℕ
-  pub pivot : Option ℕ
-  pub label : LabelAt T k from to dep arr pivot
-  pub lacks : ¬ (Supported S T from to dep arr pivot)
 
 module _ {S : Service} (G : GoodService S) {T : Tables} (good : GoodTables T) where
   dec-halves : (u w v d a : ℕ) → Dec (Halves T u w v d a)

@@ -2,9 +2,11 @@
 use Prim.Native.Nat.{ℕ, _≤_, _<_}
 use mathlib.Core.Path.{_≡_}
 use mathlib.Core.Logic.{_≢_}
+use mathlib.Core.List.{List, _∷_}
 use mathlib.Core.Option.{Option, none, some}
 use Rattle.journeys.specs.declared.Criterion.the-variants.{Early}
 use Rattle.journeys.specs.Service.{Service, RideAt}
+use Rattle.journeys.specs.Journey.{Journey, rides, Within}
 use Rattle.journeys.specs.Criteria.{Answer}
 use Rattle.journeys.specs.Tables.{Tables, LabelAt, Label, Sketch}
 
@@ -59,3 +61,22 @@ pub record GapFirst (S : Service) (T : Tables) (i v : ℕ) : Type 0 where
   pub fault : ¬ (NoGapAt S T i v)
   pub runs-before : (j w : ℕ) → j < i → w < T .stops → NoGapAt S T j w
   pub stops-before : (w : ℕ) → w < v → NoGapAt S T i w
+
+-- "refusals 19 and 20 name a real fault". 19: label k stands in the tables, and has no support
+pub record Unsupported (S : Service) (T : Tables) (k : ℕ) : Type 0 where
+  pub from : ℕ
+  pub to : ℕ
+  pub dep : ℕ
+  pub arr : ℕ
+  pub pivot : Option ℕ
+  pub label : LabelAt T k from to dep arr pivot
+  pub lacks : ¬ (Supported S T from to dep arr pivot)
+
+-- 20: a journey begins with the ride at slot i and ends at another stop v, and no sketch leaves as late and arrives as early: the tables miss it
+pub record Missed (S : Service) (T : Tables) (i v : ℕ) : Type 0 where
+  pub arr : ℕ
+  pub other : v ≢ S .ride i .from
+  pub way : Journey S (S .ride i .from) v (S .ride i .dep) arr
+  pub rest : List ℕ
+  pub begins : rides way ≡ i ∷ rest
+  pub lost : ¬ (Within (Sketch T (S .ride i .from) v) (S .ride i .dep) arr)

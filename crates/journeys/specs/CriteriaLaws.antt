@@ -9,9 +9,9 @@ use native.Mathlib.Decide.{decLe, decLt}
 use Rattle.loops.specs.Decide.{any-below, dec-then, dec-map, Least, least, least-le, Greatest, greatest-ge}
 use Rattle.journeys.specs.declared.Criterion.{Criterion}
 use Rattle.journeys.specs.declared.Criterion.the-variants.{Early, Late, Short}
-use Rattle.journeys.specs.Journey.{Undominated}
+use Rattle.journeys.specs.Journey.{Undominated, Within}
 use Rattle.journeys.specs.Criteria.{Fits, Better, Best, Answer, Nothing}
-use Rattle.journeys.specs.PairLaws.{Within, itself, wider, tight, early-tight, last-for, first-from}
+use Rattle.journeys.specs.PairLaws.{itself, wider, tight, early-tight, last-for, first-from}
 
 -- the duration: what `Better` says of short is what the paper says of it
 pub shorter-is : (d a e b : ℕ) → d ≤ a → e ≤ b → (a + e < b + d) ↔ (a - d < b - e)

@@ -44,3 +44,11 @@ pub record Undominated (P : ℕ → ℕ → Type 0) (d a : ℕ) : Type 0 where
   pub has : P d a
   pub no-later : (e b : ℕ) → P e b → d < e → b ≤ a → ⊥
   pub no-sooner : (e b : ℕ) → P e b → d ≤ e → b < a → ⊥
+
+-- a pair of P leaves at or after t and arrives at or before e: (t, e) is weakly dominated
+pub record Within (P : ℕ → ℕ → Type 0) (t e : ℕ) : Type 0 where
+  pub dep : ℕ
+  pub arr : ℕ
+  pub has : P dep arr
+  pub after : t ≤ dep
+  pub before : arr ≤ e

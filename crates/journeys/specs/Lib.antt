@@ -14,7 +14,8 @@ pub mod AcceptedLaws
 pub mod RuleLaws
 pub mod RidesLaws
 pub mod EarliestLaws
-pub mod Example
-pub mod ExampleLaws
+pub mod TestLaws
+pub mod RuleTestLaws
 pub mod Count
 pub mod CountLaws
+pub mod CountTestLaws

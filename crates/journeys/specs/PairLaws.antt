@@ -6,15 +6,7 @@ use native.Mathlib.Nat.{le-refl}
 use native.Mathlib.Omega.{arith}
 use native.Mathlib.Decide.{decLe, decLt}
 use Rattle.loops.specs.Decide.{Least, least, least-le, Greatest, greatest, greatest-ge}
-use Rattle.journeys.specs.Journey.{Undominated}
-
--- a pair of P leaves at or after t and arrives at or before e: (t, e) is weakly dominated
-pub record Within (P : ℕ → ℕ → Type 0) (t e : ℕ) : Type 0 where
-  pub dep : ℕ
-  pub arr : ℕ
-  pub has : P dep arr
-  pub after : t ≤ dep
-  pub before : arr ≤ e
+use Rattle.journeys.specs.Journey.{Undominated, Within}
 
 pub itself : {P : ℕ → ℕ → Type 0} {d a : ℕ} → P d a → Within P d a
 itself {d = d} {a} p = record { dep = d; arr = a; has = p; after = le-refl d; before = le-refl a }

@@ -8,8 +8,8 @@ use native.Mathlib.Omega.{arith}
 use native.Mathlib.Decide.{ℕ-discrete, decLe, decLt}
 use Rattle.loops.specs.Decide.{any-below, Least, least-below, dec-then, dec-or, dec-map, dec-not}
 use Rattle.journeys.specs.Service.{Service, RideAt, GoodService}
-use Rattle.journeys.specs.Journey.{Journey, one, more, Undominated}
-use Rattle.journeys.specs.PairLaws.{Within, same-pair, refine, undominated-iff}
+use Rattle.journeys.specs.Journey.{Journey, one, more, Undominated, Within}
+use Rattle.journeys.specs.PairLaws.{same-pair, refine, undominated-iff}
 use Rattle.journeys.specs.JourneyLaws.{join, journey-later, Via}
 
 -- slot i starts a journey u to v within t and e

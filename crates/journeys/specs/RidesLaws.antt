@@ -8,14 +8,15 @@ use native.Mathlib.Omega.{arith}
 use native.Mathlib.Decide.{ℕ-discrete, decLe, decLt}
 use lib.ListN.{length, length-append}
 use Rattle.loops.specs.Decide.{dec-then, Least, least, least-one}
+use Rattle.kinds.specs.Limits.{lastMinute}
 use Rattle.journeys.specs.Service.{Service, RideAt, GoodService}
-use Rattle.journeys.specs.Journey.{one, rides, RidesOf}
-use Rattle.journeys.specs.Tables.{Tables, of-out, of-in, Label, GoodTables, JoinAt, Sketch, single, joined}
+use Rattle.journeys.specs.Journey.{Journey, one, more, rides, RidesOf}
+use Rattle.journeys.specs.Tables.{Tables, of-out, of-in, Label, GoodTables, JoinAt, Sketch, single, joined, LabelWith}
 use Rattle.journeys.specs.Check.{AllSupported}
 use Rattle.journeys.specs.Rides.{Opens, ride, both, Chosen, by-label, by-hub}
-use Rattle.journeys.specs.JourneyLaws.{join, rides-join}
+use Rattle.journeys.specs.JourneyLaws.{join, rides-join, ride-later, journey-last}
 use Rattle.journeys.specs.ReachLaws.{dec-ride, dec-some-ride}
-use Rattle.journeys.specs.SketchLaws.{label-later, one-by-dep, one-by-arr, LabelWith, dec-label}
+use Rattle.journeys.specs.SketchLaws.{label-later, one-by-dep, one-by-arr, dec-label}
 
 -- the rides of a label are a journey with exactly its pair
 pub opens-journey : {S : Service} {T : Tables} {u v d a : ℕ} {p : Option ℕ} {l : List ℕ} → Opens S T u v d a p l → RidesOf S u v d a l
@@ -223,3 +224,13 @@ module _ {S : Service} (D : GoodService S) {T : Tables} (G : GoodTables T) (sup 
           (o .0, by-label (k .pivot) l (o .1))
       go (no n) (single p k) = absurd (n (record { dep = d; arr = a; pivot = p; label = k; says = (refl, refl) }))
       go (no n) (joined h J) = at-hub (λ r x. n (record { dep = d; arr = a; pivot = r; label = x; says = (refl, refl) })) (lowest-join G u v d a h J)
+
+-- a journey has no more rides than it takes minutes, so 2,879 at most
+module _ {S : Service} (D : GoodService S) where
+  rides-short : {u v d a : ℕ} (j : Journey S u v d a) → length (rides j) + d ≤ a
+  unfolding rides
+  rides-short (one i r) = omega (arith, ride-later D r)
+  rides-short (more i r h j) = omega (arith, ride-later D r, rides-short j)
+
+  pub rides-few : {u v d a : ℕ} {l : List ℕ} → RidesOf S u v d a l → length l ≤ lastMinute
+  rides-few w = omega (arith, rides-short (w .way), ap length (w .are), journey-last D (w .way))

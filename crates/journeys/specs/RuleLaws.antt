@@ -9,12 +9,12 @@ use native.Mathlib.Decide.{ℕ-discrete, decLt}
 use Rattle.loops.specs.Decide.{Least, least, least-one}
 use Rattle.journeys.specs.declared.Criterion.{Criterion}
 use Rattle.journeys.specs.Service.{Service, RideAt, GoodService}
-use Rattle.journeys.specs.Journey.{Journey, one, more, Undominated}
+use Rattle.journeys.specs.Journey.{Journey, one, more, Undominated, Within}
 use Rattle.journeys.specs.Criteria.{Best, Nothing}
 use Rattle.journeys.specs.Tables.{Side, outs, ins, Tables, Entry, of-out, of-in, Label, GoodTables, Sketch, single, joined}
 use Rattle.journeys.specs.Rule.{Pivot, by-run, by-stop, Rule, ByRule}
 use Rattle.journeys.specs.Check.{Halves, AllSupported, Accepted}
-use Rattle.journeys.specs.PairLaws.{Within, same-pair}
+use Rattle.journeys.specs.PairLaws.{same-pair}
 use Rattle.journeys.specs.JourneyLaws.{join, Via, between-iff, visits-iff, via-first, via-second, not-start, not-end}
 use Rattle.journeys.specs.ReachLaws.{refined, dec-undominated, dec-via, lowest-via, dec-some-ride}
 use Rattle.journeys.specs.AcceptedLaws.{label-sound, sketch-sound, no-gap-iff, complete, accepted-best, accepted-nothing}

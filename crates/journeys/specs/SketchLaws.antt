@@ -7,8 +7,8 @@ use native.Mathlib.Omega.{arith}
 use native.Mathlib.Decide.{ℕ-discrete, decLe, decLt}
 use Rattle.loops.specs.Decide.{any-below, dec-then, dec-or, dec-map}
 use Rattle.kinds.specs.Limits.{lastMinute}
-use Rattle.journeys.specs.Tables.{Side, outs, ins, Tables, Entry, LabelAt, of-out, of-in, Label, GoodTables, Sketch, single, joined}
-use Rattle.journeys.specs.PairLaws.{Within}
+use Rattle.journeys.specs.Tables.{Side, outs, ins, Tables, Entry, LabelAt, of-out, of-in, Label, GoodTables, Sketch, single, joined, LabelWith}
+use Rattle.journeys.specs.Journey.{Within}
 
 -- one number, one label
 pub one-entry : {T : Tables} {side : Side} {i k s h g d e a b : ℕ} {p q : Option ℕ} → i ≡ k → Entry T side i s h d a p → Entry T side k s g e b q → (h ≡ g) × (d ≡ e) × (a ≡ b) × (p ≡ q)
@@ -206,14 +206,6 @@ dec-exact T side s h P dec = any-below (Exact T side s h P) (T .end side s) (λ 
     (λ x. (x .owner, (x .low, (x .high, (x .hub, x .says)))))
     (dec-then (decLt s (T .stops)) (λ _. dec-then (decLe (T .start side s) k) (λ _. dec-then (decLt k (T .end side s)) (λ _.
     dec-then (ℕ-discrete (T .hub k) h) (λ _. dec (T .dep k) (T .arr k)))))))
-
--- some label u to v has a pair of P
-pub record LabelWith (T : Tables) (u v : ℕ) (P : ℕ → ℕ → Type 0) : Type 0 where
-  pub dep : ℕ
-  pub arr : ℕ
-  pub pivot : Option ℕ
-  pub label : Label T u v dep arr pivot
-  pub says : P dep arr
 
 pub dec-label : (T : Tables) (u v : ℕ) (P : ℕ → ℕ → Type 0) → ((d a : ℕ) → Dec (P d a)) → Dec (LabelWith T u v P)
 dec-label T u v P dec = dec-map to back (dec-or (dec-exact T outs u v P dec) (dec-exact T ins v u P dec))

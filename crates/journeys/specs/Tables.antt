@@ -67,3 +67,11 @@ pub record JoinAt (T : Tables) (u v d a h : ℕ) : Type 0 where
 pub data Sketch (T : Tables) (u v d a : ℕ) : Type 0 where
   single : (p : Option ℕ) → Label T u v d a p → Sketch T u v d a
   joined : (h : ℕ) → JoinAt T u v d a h → Sketch T u v d a
+
+-- some label u to v has a pair of P
+pub record LabelWith (T : Tables) (u v : ℕ) (P : ℕ → ℕ → Type 0) : Type 0 where
+  pub dep : ℕ
+  pub arr : ℕ
+  pub pivot : Option ℕ
+  pub label : Label T u v dep arr pivot
+  pub says : P dep arr

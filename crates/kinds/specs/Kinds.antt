@@ -1,5 +1,7 @@
 -- What each constructor of src/lib.rt answers.
-use Prim.Native.Nat.{ℕ}
+use Prim.Native.Nat.{ℕ, _≤_, _<_}
+use mathlib.Core.Path.{_≡_}
+use mathlib.Core.Logic.{_⊎_}
 use mathlib.Core.Bool.{Bool, false, cond}
 use lib.Dec.{ltb, leb, eqb}
 use Rattle.kinds.specs.Limits.{mostStops, mostRuns, noPivot, lastMinute, mostTrip, mostCode, leastCodeByte, mostCodeByte}
@@ -67,3 +69,25 @@ isCodeByte b = cond (ltb b leastCodeByte) false (leb b mostCodeByte)
 -- "Codes 1 to 64 bytes"
 unfoldable pub isCodeLength : ℕ → Bool
 isCodeLength n = cond (eqb n 0) false (leb n mostCode)
+
+-- the five numbers of a good run
+pub record GoodRun (stops from to dep arr trip : ℕ) : Type 0 where
+  pub from-stop : from < stops
+  pub to-stop : to < stops
+  pub apart : from ≡ to → ⊥
+  pub later : dep < arr
+  pub last : arr ≤ lastMinute
+  pub trip-least : 0 < trip
+  pub trip-most : trip ≤ mostTrip
+
+-- a pivot is none, or "more than the hub, less than n and not the owner"
+pub record GoodPivot (stops owner hub pivot : ℕ) : Type 0 where
+  pub above : hub < pivot
+  pub below : pivot < stops
+  pub other : pivot ≡ owner → ⊥
+
+pub record GoodLabel (stops owner hub dep arr pivot : ℕ) : Type 0 where
+  pub low : hub < owner
+  pub later : dep < arr
+  pub last : arr ≤ lastMinute
+  pub pivoted : (pivot ≡ noPivot) ⊎ GoodPivot stops owner hub pivot

@@ -5,17 +5,22 @@ use mathlib.Core.Bool.{Bool, true, false, cond}
 use mathlib.Core.Logic.{_⊎_, inl, inr}
 use native.Mathlib.Omega.{arith}
 use lib.Dec.{ltb, leb, eqb}
-use borrow.Author.Tests.{ltb-true, ltb-false, leb-true, leb-false, eqb-true, eqb-false}
+use borrow.Author.Tests.{ltb-true, ltb-false, leb-true, leb-false, eqb-true, eqb-false, lt-ltb, le-ltb, le-leb, lt-leb, ne-eqb}
 use Rattle.loops.specs.Chain.{past, stays}
 use Rattle.kinds.specs.Limits.{mostStops, mostRuns, noPivot, lastMinute, mostTrip}
-use Rattle.kinds.specs.Kinds.{isStopCount, isRunCount, stopOf, runOf, labelOf}
+use Rattle.kinds.specs.Kinds.{isStopCount, isRunCount, stopOf, minuteOf, runOf, labelOf, GoodRun, GoodLabel}
 use Rattle.kinds.specs.declared.StopRead.the-variants as stop
 use Rattle.kinds.specs.declared.Stop.{Stop}
+use Rattle.kinds.specs.declared.MinuteRead.the-variants as minute
 use Rattle.kinds.specs.declared.Run.{Run}
 use Rattle.kinds.specs.declared.RunRead.the-variants as run
 use Rattle.kinds.specs.declared.Label.{Label}
 use Rattle.kinds.specs.declared.LabelRead.{LabelRead}
 use Rattle.kinds.specs.declared.LabelRead.the-variants as label
+
+pub count-is : (n : ℕ) → 1 ≤ n → n ≤ mostStops → isStopCount n ≡ true
+unfolding isStopCount
+count-is n h k = rw (ne-eqb n 0 (λ e. omega arith), le-leb n mostStops k) refl
 
 pub stop-count : (n : ℕ) → isStopCount n ≡ true → (1 ≤ n) × (n ≤ mostStops)
 unfolding isStopCount
@@ -23,6 +28,10 @@ stop-count n e =
     let z = past (eqb n 0) e (λ x. let y : _≡_ {A = ℕ} 0 1 = cc in omega arith) in
     let l = leb-true n mostStops (z .1) in
     (omega (arith, eqb-false n 0 (z .0)), l)
+
+pub run-count-is : (n : ℕ) → n ≤ mostRuns → isRunCount n ≡ true
+unfolding isRunCount
+run-count-is n h = le-leb n mostRuns h
 
 pub run-count : (n : ℕ) → isRunCount n ≡ true → n ≤ mostRuns
 unfolding isRunCount
@@ -35,15 +44,22 @@ stop-good n count s e =
     let f = z .1 in
     (cc, ltb-true n count (z .0))
 
--- the five numbers of a good run
-pub record GoodRun (stops from to dep arr trip : ℕ) : Type 0 where
-  pub from-stop : from < stops
-  pub to-stop : to < stops
-  pub apart : from ≡ to → ⊥
-  pub later : dep < arr
-  pub last : arr ≤ lastMinute
-  pub trip-least : 0 < trip
-  pub trip-most : trip ≤ mostTrip
+-- a number is a stop exactly where it is below the count, and a minute exactly up to the last one
+pub stop-is : (n count : ℕ) → n < count → stopOf n count ≡ stop.Good (record { 0 = n })
+unfolding stopOf
+stop-is n count h = rw (lt-ltb n count h) refl
+
+pub stop-bad : (n count : ℕ) → count ≤ n → stopOf n count ≡ stop.Bad
+unfolding stopOf
+stop-bad n count h = rw (le-ltb n count h) refl
+
+pub minute-is : (n : ℕ) → n ≤ lastMinute → minuteOf n ≡ minute.Good (record { 0 = n })
+unfolding minuteOf
+minute-is n h = rw (le-leb n lastMinute h) refl
+
+pub minute-bad : (n : ℕ) → lastMinute < n → minuteOf n ≡ minute.Bad
+unfolding minuteOf
+minute-bad n h = rw (lt-leb n lastMinute h) refl
 
 pub run-good : (stops from to dep arr t : ℕ) (r : Run) → runOf stops from to dep arr t ≡ run.Good r →
     GoodRun stops from to dep arr t × (r ≡ record { from = from; to = to; dep = dep; arr = arr; trip = t })
@@ -69,17 +85,19 @@ run-good stops from to dep arr t r e =
       cc,
     )
 
--- a pivot is none, or "more than the hub, less than n and not the owner"
-pub record GoodPivot (stops owner hub pivot : ℕ) : Type 0 where
-  pub above : hub < pivot
-  pub below : pivot < stops
-  pub other : pivot ≡ owner → ⊥
-
-pub record GoodLabel (stops owner hub dep arr pivot : ℕ) : Type 0 where
-  pub low : hub < owner
-  pub later : dep < arr
-  pub last : arr ≤ lastMinute
-  pub pivoted : (pivot ≡ noPivot) ⊎ GoodPivot stops owner hub pivot
+-- and a good run is read as it is
+pub run-is : (stops from to dep arr t : ℕ) → GoodRun stops from to dep arr t → runOf stops from to dep arr t ≡ run.Good (record { from = from; to = to; dep = dep; arr = arr; trip = t })
+unfolding runOf
+run-is stops from to dep arr t g =
+    rw (
+      lt-leb stops from (g .from-stop),
+      lt-leb stops to (g .to-stop),
+      ne-eqb from to (g .apart),
+      lt-leb arr dep (g .later),
+      le-ltb lastMinute arr (g .last),
+      ne-eqb t 0 (λ e. omega (arith, g .trip-least)),
+      le-ltb mostTrip t (g .trip-most),
+    ) refl
 
 pub label-good : (stops owner hub dep arr pivot : ℕ) (l : Label) → labelOf stops owner hub dep arr pivot ≡ label.Good l →
     GoodLabel stops owner hub dep arr pivot × (l ≡ record { hub = hub; dep = dep; arr = arr; pivot = pivot })

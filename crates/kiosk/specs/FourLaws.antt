@@ -3,8 +3,7 @@ use Prim.Native.Nat.{ℕ}
 use mathlib.Core.Path.{_≡_, ap, sym, _∙_}
 use mathlib.Core.List.{List}
 use Rattle.journeys.specs.Tables.{Tables, Sketch}
-use Rattle.tables.specs.File.{tablesOf}
-use Rattle.tables.specs.OneFile.{AreBytes}
+use Rattle.tables.specs.File.{tablesOf, AreBytes}
 use Rattle.timetable.specs.Numbers.{serviceOf}
 use Rattle.asks.specs.declared.Answer.{Answer}
 use Rattle.asks.specs.declared.AskRead.{AskRead}

@@ -1,9 +1,10 @@
 -- What one line of the timetable text says. The line is the stretch of the text s from a up to e, where its LF stands.
-use Prim.Native.Nat.{ℕ, _+_, _-_}
+use Prim.Native.Nat.{ℕ, _+_, _-_, _≤_}
 use mathlib.Core.List.{List, [], _∷_}
 use mathlib.Core.Bool.{cond, not}
+use lib.ListN.{length}
 use lib.Dec.{ltb, leb, eqb}
-use Rattle.kinds.specs.Limits.{mostStops, mostRuns}
+use Rattle.kinds.specs.Limits.{mostStops, mostRuns, mostText}
 use Rattle.kinds.specs.Refusals.{lineShape, codeBad, codeRepeated, overLimit}
 use Rattle.kinds.specs.Kinds.{runOf}
 use Rattle.kinds.specs.declared.RunRead.{RunRead}
@@ -103,3 +104,16 @@ lineOf s codes stops runs a e =
     (cond (beginsB s a e stopWord) (stopLine s codes stops runs (a + 5) e)
     (cond (isWordB s a e endWord) (cond (ltb 0 stops) End (Bad lineShape))
     (Bad lineShape)))
+
+-- a stretch of a text that is not too long
+pub record Stretch (s : List ℕ) (a e : ℕ) : Type 0 where
+  pub low : a ≤ e
+  pub high : e ≤ length s
+  pub short : length s ≤ mostText
+
+-- the codes of a run line stand in the text
+pub record FieldsWithin (s : List ℕ) (f : Fields) : Type 0 where
+  pub from-low : f .from .at ≤ f .from .end
+  pub from-high : f .from .end ≤ length s
+  pub to-low : f .to .at ≤ f .to .end
+  pub to-high : f .to .end ≤ length s

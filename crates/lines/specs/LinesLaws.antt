@@ -9,8 +9,8 @@ use lib.Dec.{ltb, leb, eqb}
 use borrow.Author.Tests.{leb-false, ltb-true, ltb-false, not-false}
 use Rattle.loops.specs.Chain.{past}
 use Rattle.kinds.specs.Limits.{mostStops, mostRuns, mostText}
-use Rattle.kinds.specs.Kinds.{runOf}
-use Rattle.kinds.specs.KindsLaws.{GoodRun, run-good}
+use Rattle.kinds.specs.Kinds.{runOf, GoodRun}
+use Rattle.kinds.specs.KindsLaws.{run-good}
 use Rattle.kinds.specs.declared.Code.{Code}
 use Rattle.kinds.specs.declared.Run.{Run}
 use Rattle.kinds.specs.declared.RunRead.{RunRead}
@@ -18,7 +18,7 @@ use Rattle.kinds.specs.declared.RunRead.the-variants as run
 use Rattle.words.specs.Words.{space, seek, beginsB, isWordB, isCode}
 use Rattle.words.specs.WordsLaws.{seek-low, begins-long}
 use Rattle.lookup.specs.Lookup.{stopNamed}
-use Rattle.lines.specs.Lines.{numbersAt, fielded, fieldsAt, stopLine, judged, runFields, shaped, runLine, runWord, stopWord, endWord, lineOf}
+use Rattle.lines.specs.Lines.{numbersAt, fielded, fieldsAt, stopLine, judged, runFields, shaped, runLine, runWord, stopWord, endWord, lineOf, FieldsWithin}
 use Rattle.lines.specs.declared.NumbersRead.{NumbersRead}
 use Rattle.lines.specs.declared.NumbersRead.the-variants as numbers
 use Rattle.lines.specs.declared.Field.{Field}
@@ -27,19 +27,6 @@ use Rattle.lines.specs.declared.FieldsRead.{FieldsRead}
 use Rattle.lines.specs.declared.FieldsRead.the-variants as fields
 use Rattle.lines.specs.declared.Line.{Line}
 use Rattle.lines.specs.declared.Line.the-variants as line
-
--- a stretch of a text that is not too long
-pub record Stretch (s : List ℕ) (a e : ℕ) : Type 0 where
-  pub low : a ≤ e
-  pub high : e ≤ length s
-  pub short : length s ≤ mostText
-
--- the codes of a run line stand in the text
-pub record FieldsWithin (s : List ℕ) (f : Fields) : Type 0 where
-  pub from-low : f .from .at ≤ f .from .end
-  pub from-high : f .from .end ≤ length s
-  pub to-low : f .to .at ≤ f .to .end
-  pub to-high : f .to .end ≤ length s
 
 fielded-good : (from to : Field) (x : NumbersRead) (f : Fields) → fielded from to x ≡ fields.Good f → (f .from ≡ from) × (f .to ≡ to)
 fielded-good from to (numbers.Good x) f h = (cc, cc)

@@ -9,8 +9,7 @@ ghost use mathlib.Core.Path.{_≡_};
 ghost use Prim.Native.Nat.{_+_, _≤_, _<_};
 ghost use lib.ListN.{length};
 ghost use Rattle.lookup.specs.Index.{Indexed};
-ghost use Rattle.lines.specs.Lines.{numbersAt, fieldsAt, stopLine, runFields, runLine, lineOf};
-ghost use Rattle.lines.specs.LinesLaws.{Stretch, FieldsWithin};
+ghost use Rattle.lines.specs.Lines.{numbersAt, fieldsAt, stopLine, runFields, runLine, lineOf, Stretch, FieldsWithin};
 
 // The numbers of a run line.
 pub struct Numbers {

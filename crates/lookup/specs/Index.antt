@@ -8,8 +8,7 @@ use mathlib.Core.Bool.{Bool, false, cond}
 use lib.ListN.{length, getD}
 use lib.Dec.{eqb}
 use Rattle.kinds.specs.Limits.{mostStops, mostText}
-use Rattle.lookup.specs.Lookup.{startOf, lengthOf, hasCode}
-use Rattle.lookup.specs.LookupLaws.{Placed}
+use Rattle.lookup.specs.Lookup.{startOf, lengthOf, hasCode, Placed}
 use Rattle.lookup.specs.Mark.{markOf}
 
 abbrev pub slotCount : ℕ

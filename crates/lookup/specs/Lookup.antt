@@ -1,8 +1,8 @@
 -- Which stop has a code. The codes are "numbers that say where each code starts and how long it is", two a stop, in rank order.
-use Prim.Native.Nat.{ℕ, zero, suc, _+_, _*_}
+use Prim.Native.Nat.{ℕ, zero, suc, _+_, _*_, _≤_, _<_}
 use mathlib.Core.List.{List, [], _∷_}
 use mathlib.Core.Bool.{Bool, false, cond}
-use lib.ListN.{getD}
+use lib.ListN.{length, getD}
 use lib.Dec.{eqb}
 use Rattle.loops.specs.Every.{sameB}
 use Rattle.loops.specs.Put.{putFrom}
@@ -29,3 +29,8 @@ stopNamed s codes stops t a n = stopIn s codes t a n stops stops
 -- the list with the code of stop j put in
 abbrev pub putCode : List ℕ → ℕ → ℕ → ℕ → List ℕ
 putCode codes j start n = putFrom codes (2 * j) (start ∷ n ∷ [])
+
+-- the codes of the first k stops are in the list, and stand in the text
+pub record Placed (s codes : List ℕ) (k : ℕ) : Type 0 where
+  pub listed : 2 * k ≤ length codes
+  pub placed : (j : ℕ) → j < k → startOf codes j + lengthOf codes j ≤ length s

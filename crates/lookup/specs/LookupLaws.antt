@@ -13,12 +13,7 @@ use Rattle.loops.specs.Chain.{stays}
 use Rattle.loops.specs.Every.{sameB}
 use Rattle.loops.specs.EveryLaws.{same-at, same-of}
 use Rattle.loops.specs.PutLaws.{put-length, put-before, put-at}
-use Rattle.lookup.specs.Lookup.{startOf, lengthOf, hasCode, stopIn, stopNamed, putCode}
-
--- the codes of the first k stops are in the list, and stand in the text
-pub record Placed (s codes : List ℕ) (k : ℕ) : Type 0 where
-  pub listed : 2 * k ≤ length codes
-  pub placed : (j : ℕ) → j < k → startOf codes j + lengthOf codes j ≤ length s
+use Rattle.lookup.specs.Lookup.{startOf, lengthOf, hasCode, stopIn, stopNamed, putCode, Placed}
 
 pub placed-fewer : {s codes : List ℕ} {k m : ℕ} → Placed s codes k → m ≤ k → Placed s codes m
 placed-fewer p h = record { listed = omega (arith, p .listed); placed = λ j l. p .placed j (omega arith) }

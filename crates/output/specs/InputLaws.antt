@@ -12,8 +12,8 @@ use Rattle.kinds.specs.Refusals.{overLimit}
 use Rattle.reader.specs.declared.Counts.{Counts}
 use Rattle.reader.specs.declared.ReadAnswer.{ReadAnswer}
 use Rattle.reader.specs.declared.ReadAnswer.the-variants.{Read, No}
-use Rattle.reader.specs.Text.{Outcome, bad, readText, answerOf, runsOf, codesOf}
-use Rattle.reader.specs.TextLaws.{GoodRead, read-good}
+use Rattle.reader.specs.Text.{Outcome, bad, readText, answerOf, runsOf, codesOf, GoodRead}
+use Rattle.reader.specs.TextLaws.{read-good}
 use Rattle.askline.specs.Input.{timetableEnd}
 use Rattle.kinds.specs.declared.Refusal.{Refusal}
 use Rattle.builder.specs.declared.BuildAnswer.{BuildAnswer}

@@ -9,8 +9,7 @@ use lib.Dec.{ltb}
 use Rattle.kinds.specs.Limits.{mostInput, runsRoom, codesRoom, lastMinute}
 use Rattle.kinds.specs.Refusals.{lineShape, overLimit}
 use Rattle.kinds.specs.declared.Refusal.{Refusal}
-use Rattle.tables.specs.File.{fileRoom}
-use Rattle.tables.specs.OneFile.{AreBytes}
+use Rattle.tables.specs.File.{fileRoom, AreBytes}
 use Rattle.reader.specs.declared.Counts.{Counts}
 use Rattle.reader.specs.declared.ReadAnswer.the-variants as read
 use Rattle.reader.specs.Text.{Outcome, bad, readText, answerOf, runsOf, codesOf}

@@ -6,12 +6,10 @@ use native.Mathlib.Omega.{arith}
 use lib.ListN.{length, take, replicate, length-append}
 use lib.Seq.{length-take-le}
 use Rattle.kinds.specs.Limits.{runsRoom, codesRoom, lastMinute}
-use Rattle.tables.specs.File.{fileRoom}
-use Rattle.tables.specs.OneFile.{AreBytes}
+use Rattle.tables.specs.File.{fileRoom, AreBytes}
 use Rattle.reader.specs.declared.Counts.{Counts}
 use Rattle.reader.specs.declared.ReadAnswer.the-variants as read
-use Rattle.reader.specs.Text.{runsOf, codesOf}
-use Rattle.reader.specs.TextLaws.{GoodRead}
+use Rattle.reader.specs.Text.{runsOf, codesOf, GoodRead}
 use Rattle.builder.specs.declared.BuildAnswer.{BuildAnswer}
 use Rattle.builder.specs.Build.{buildRoom, BuildOf}
 use Rattle.builder.specs.BuildLaws.{built-within, build-one}

@@ -19,8 +19,8 @@ use Rattle.askline.specs.InputLaws.{line-within}
 use Rattle.printed.specs.Printed.{noLine, lineRoom}
 use Rattle.printed.specs.LineLaws.{at-some, ride-some, no-some, no-place-some}
 use Rattle.printed.specs.WroteLaws.{wrote-first, wrote-one}
-use Rattle.answers.specs.Answers.{LineGets, headOf, ridesIn, runLine, rideLines, printedFor}
-use Rattle.answers.specs.AnswersLaws.{gets-one, gets-lent, Ridden, ridden-all}
+use Rattle.answers.specs.Answers.{LineGets, headOf, ridesIn, runLine, rideLines, printedFor, Ridden}
+use Rattle.answers.specs.AnswersLaws.{gets-one, gets-lent, ridden-all}
 use Rattle.output.specs.Output.{Held, heldOf, LinesPrint, none, unfinished, line, TurnPrints, Prints}
 use Rattle.output.specs.Steps as step
 use Rattle.output.specs.Steps.{Writes, TurnStep, StepOf, mostHeld, Ready, Stands}

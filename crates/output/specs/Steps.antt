@@ -6,7 +6,7 @@ use lib.ListN.{length, take, getD}
 use Rattle.kinds.specs.Limits.{mostText, mostInput, runsRoom, lastMinute}
 use Rattle.kinds.specs.Refusals.{lineShape}
 use Rattle.timetable.specs.Numbers.{runAt}
-use Rattle.reader.specs.TextLaws.{GoodRead}
+use Rattle.reader.specs.Text.{GoodRead}
 use Rattle.rides.specs.declared.RidesAnswer.{RidesAnswer}
 use Rattle.ground.specs.Ground.{groundRoom}
 use Rattle.askline.specs.declared.Piece.the-variants as piece
@@ -14,8 +14,7 @@ use Rattle.askline.specs.AskLine.{askLine}
 use Rattle.askline.specs.Input.{pieceAt}
 use Rattle.printed.specs.Printed.{noLine, lineRoom}
 use Rattle.printed.specs.Wrote.{Wrote}
-use Rattle.answers.specs.Answers.{LineGets, headOf, ridesIn, runLine}
-use Rattle.answers.specs.AnswersLaws.{Ridden}
+use Rattle.answers.specs.Answers.{LineGets, headOf, ridesIn, runLine, Ridden}
 use Rattle.output.specs.Output.{Held, heldOf, refusedLine}
 use Rattle.output.specs.declared.Sizes.{Sizes}
 use Rattle.output.specs.declared.Turn.{Turn}

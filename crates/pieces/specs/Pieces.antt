@@ -5,9 +5,8 @@ use mathlib.Core.List.{List}
 use mathlib.Core.Option.{Option}
 use Rattle.kinds.specs.Limits.{noPivot}
 use Rattle.kinds.specs.declared.Label as kinds
-use Rattle.journeys.specs.Tables.{Side, Tables, Entry, LabelAt, Label}
+use Rattle.journeys.specs.Tables.{Side, Tables, Entry, LabelAt, Label, LabelWith}
 use Rattle.journeys.specs.Check.{Halves}
-use Rattle.journeys.specs.SketchLaws.{LabelWith}
 use Rattle.tables.specs.File.{pivotOf, tablesOf}
 use Rattle.tables.specs.Good.{GoodFile}
 use Rattle.timetable.specs.Numbers.{runAt}

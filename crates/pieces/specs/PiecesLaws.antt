@@ -14,9 +14,9 @@ use Rattle.loops.specs.Tells.{Tells}
 use Rattle.loops.specs.TellsLaws.{told-true, told-false}
 use Rattle.kinds.specs.Limits.{noPivot}
 use Rattle.kinds.specs.declared.Label as kinds
-use Rattle.journeys.specs.Tables.{Side, outs, ins, Tables, Entry, LabelAt, of-out, of-in, Label, GoodTables}
+use Rattle.journeys.specs.Tables.{Side, outs, ins, Tables, Entry, LabelAt, of-out, of-in, Label, GoodTables, LabelWith}
 use Rattle.journeys.specs.Check.{Halves}
-use Rattle.journeys.specs.SketchLaws.{entry-at, LabelWith, number-by-dep, one-by-dep, one-by-arr}
+use Rattle.journeys.specs.SketchLaws.{entry-at, number-by-dep, one-by-dep, one-by-arr}
 use Rattle.tables.specs.File.{labelsOf, labelAt, pivotOf, tablesOf}
 use Rattle.tables.specs.TablesLaws.{pivot-none, pivot-some, tables-stops, tables-within, good-tables}
 use Rattle.ground.specs.Ground.{Ready}

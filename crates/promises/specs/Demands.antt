@@ -1,83 +1,50 @@
--- Demands 2 and 3 in terms of the timetable: what an ask gets, said of journeys only.
-use Prim.Native.Nat.{ℕ, _≤_}
+-- Demands 2 and 3 in their own words: what every permitted ask gets, what the builder gives, and what a refusal of the check names. Said of the
+-- timetable's journeys; what a call answered is said by its contract (`Answers`, `Lists`, `BuildOf`).
+use Prim.Native.Nat.{ℕ, _-_, _≤_, _<_}
 use mathlib.Core.Path.{_≡_}
-use mathlib.Core.List.{List}
+use mathlib.Core.List.{List, _++_}
+use lib.ListN.{length, replicate}
+use Rattle.kinds.specs.Limits.{lastMinute, mostLabels}
+use Rattle.kinds.specs.Refusals.{labelsOver, unsupported, refusal}
+use Rattle.kinds.specs.declared.Refusal.{Refusal}
 use Rattle.journeys.specs.Service.{Service}
 use Rattle.journeys.specs.Journey.{Journey}
-use Rattle.asks.specs.declared.AskRead.{AskRead}
-use Rattle.asks.specs.declared.AskRead.the-variants as ask
+use Rattle.journeys.specs.Tables.{Tables}
+use Rattle.journeys.specs.Count.{RuleCount}
+use Rattle.journeys.specs.Check.{Unsupported, Missed}
+use Rattle.timetable.specs.Numbers.{serviceOf}
+use Rattle.tables.specs.File.{tablesOf}
 use Rattle.asks.specs.declared.Wanted.{Wanted}
 use Rattle.asks.specs.declared.Answer.{Answer}
-use Rattle.asks.specs.declared.Answer.the-variants.{No}
-use Rattle.asks.specs.Asks.{askRead, asked, AnswersBy, Answers}
-use Rattle.verdict.specs.declared.Verdict.{Verdict}
-use Rattle.verdict.specs.declared.Verdict.the-variants as verdict
-use Rattle.timetable.specs.Numbers.{serviceOf}
+use Rattle.asks.specs.Asks.{asked, Gets, Answers}
+use Rattle.asks.specs.Permitted.{Permitted, criterionOf}
 use Rattle.ground.specs.Ground.{groundRoom}
-use Rattle.verdict.specs.Verdict.{Checked}
-use Rattle.loops.specs.Zero.{zeros}
 use Rattle.rides.specs.declared.RidesAnswer.{RidesAnswer}
-use Rattle.rides.specs.declared.RidesAnswer.the-variants as rides
-use Rattle.tables.specs.File.{tablesOf}
-use Rattle.builder.specs.declared.BuildAnswer.{BuildAnswer}
-use Rattle.builder.specs.declared.BuildAnswer.the-variants as build
-use Rattle.builder.specs.Build.{BuildOf}
 use Rattle.rides.specs.Lists.{ridesAsked, Lists}
-use Rattle.rides.specs.Accepted.{TrulyLists}
+use Rattle.rides.specs.Accepted.{GetsRides}
+use Rattle.builder.specs.declared.BuildAnswer.{BuildAnswer}
+use Rattle.builder.specs.declared.BuildAnswer.the-variants.{Built, No}
+use Rattle.builder.specs.Build.{RuleFile}
+use Rattle.verdict.specs.Verdict.{gapRefusal}
 
--- "every ask gets the timetable's best": the best among all journeys, or 16 exactly when there is none; what is out of order is refused as it must be
-abbrev pub TimetableAnswers : Service → AskRead → Answer → Type 0
-TimetableAnswers S q x = AnswersBy (Journey S) q x
+-- "every ask between two different stops, at permitted times", over this file: without rides "the best among all journeys, "no journey" exactly when there is
+-- none"; with rides, lent the working room and a list of 2,879, the same, "and the listed rides are such a journey"
+pub record BestAsked (stops count : ℕ) (runs file : List ℕ) : Type 0 where
+  pub asks : (from to : ℕ) (w : Wanted) → Permitted stops from to w → (x : Answer) → Answers (tablesOf file) (asked file from to w) x →
+      Gets (Journey (serviceOf stops count runs) from to) (criterionOf w) x
+  pub rides : (from to : ℕ) (w : Wanted) → Permitted stops from to w → (lent : ℕ) → groundRoom ≤ lent → (before after : List ℕ) → lastMinute ≤ length before → (x : RidesAnswer) →
+      Lists (serviceOf stops count runs) (tablesOf file) (ridesAsked file stops count runs lent from to w) before after x →
+      GetsRides (serviceOf stops count runs) from to (criterionOf w) before after x
 
--- tables are checked first; only what the check accepts is asked
-abbrev pub AfterCheck : Verdict → Service → AskRead → Answer → Type 0
-AfterCheck verdict.Accepted S q x = TimetableAnswers S q x
-AfterCheck (verdict.No r) S q x = x ≡ No r
+-- Demand 2. "Our builder writes exactly the tables of the label rule", tells their length and their number of labels, and every ask over them gets the best; or the
+-- rule has more labels than the limit
+pub data Builds (stops count : ℕ) (runs : List ℕ) (lent : ℕ) (answer : BuildAnswer) (tables : List ℕ) : Type 0 where
+  the-rule : (file : List ℕ) (labels : ℕ) → RuleFile (serviceOf stops count runs) file → RuleCount (serviceOf stops count runs) labels → BestAsked stops count runs file →
+      answer ≡ Built (length file) labels → tables ≡ file ++ replicate (lent - length file) 0 → Builds stops count runs lent answer tables
+  too-many : (labels : ℕ) → RuleCount (serviceOf stops count runs) labels → mostLabels < labels → answer ≡ No (refusal labelsOver 0) → tables ≡ replicate lent 0 →
+      Builds stops count runs lent answer tables
 
--- an ask of tables from anyone, checked against the timetable's numbers
-pub record CheckedAsk (b : List ℕ) (stops count : ℕ) (list : List ℕ) (lent from to : ℕ) (w : Wanted) (x : Answer) : Type 0 where
-  pub verdict : Verdict
-  pub checked : Checked b stops count list lent verdict
-  pub answer : AfterCheck verdict (serviceOf stops count list) (asked b from to w) x
-
--- the same with rides: "with rides, lent its rooms, the same and the list is such a journey"; 18 never comes
-abbrev pub TimetableLists : Service → AskRead → List ℕ → List ℕ → RidesAnswer → Type 0
-TimetableLists S (ask.No r) before after x = (x ≡ rides.No r) × (after ≡ zeros before)
-TimetableLists S (ask.Good q) before after x = TrulyLists S q before after x
-
-abbrev pub AfterCheckLists : Verdict → Service → AskRead → List ℕ → List ℕ → RidesAnswer → Type 0
-AfterCheckLists verdict.Accepted S q before after x = TimetableLists S q before after x
-AfterCheckLists (verdict.No r) S q before after x = (x ≡ rides.No r) × (after ≡ zeros before)
-
-pub record CheckedRides (b : List ℕ) (stops count : ℕ) (list : List ℕ) (lent from to : ℕ) (w : Wanted) (before after : List ℕ) (x : RidesAnswer) : Type 0 where
-  pub verdict : Verdict
-  pub checked : Checked b stops count list lent verdict
-  pub answer : AfterCheckLists verdict (serviceOf stops count list) (ridesAsked b stops count list lent from to w) before after x
-
--- Demand 2, of a file: the check accepts it; and over it every ask, with and without rides, gets the timetable's best. Which asks are out of
--- order is said by the stop count alone.
-pub record Serves (stops count : ℕ) (list file : List ℕ) : Type 0 where
-  pub accepted : (lent : ℕ) → groundRoom ≤ lent → (r : Verdict) → Checked file stops count list lent r → r ≡ verdict.Accepted
-  pub asks : (from to : ℕ) (w : Wanted) (x : Answer) → Answers (tablesOf file) (asked file from to w) x → TimetableAnswers (serviceOf stops count list) (askRead stops from to w) x
-  pub rides : (lent from to : ℕ) (w : Wanted) (before after : List ℕ) (x : RidesAnswer) → groundRoom ≤ lent →
-      Lists (serviceOf stops count list) (tablesOf file) (ridesAsked file stops count list lent from to w) before after x →
-      TimetableLists (serviceOf stops count list) (askRead stops from to w) before after x
-
--- Demand 2 as calls: the builder writes the tables, and these are asked. What the builder refuses is refused.
-abbrev pub AfterBuild : BuildAnswer → Service → AskRead → Answer → Type 0
-AfterBuild (build.Built length labels) S q x = TimetableAnswers S q x
-AfterBuild (build.No r) S q x = x ≡ No r
-
-pub record BuiltAsk (stops count : ℕ) (list : List ℕ) (work lent from to : ℕ) (w : Wanted) (tables : List ℕ) (x : Answer) : Type 0 where
-  pub answer : BuildAnswer
-  pub built : BuildOf stops count list work lent answer tables
-  pub asked : AfterBuild answer (serviceOf stops count list) (askRead stops from to w) x
-
-abbrev pub AfterBuildLists : BuildAnswer → Service → AskRead → List ℕ → List ℕ → RidesAnswer → Type 0
-AfterBuildLists (build.Built length labels) S q before after x = TimetableLists S q before after x
-AfterBuildLists (build.No r) S q before after x = (x ≡ rides.No r) × (after ≡ zeros before)
-
-pub record BuiltRides (stops count : ℕ) (list : List ℕ) (work lent from to : ℕ) (w : Wanted) (tables before after : List ℕ) (x : RidesAnswer) : Type 0 where
-  pub answer : BuildAnswer
-  pub built : BuildOf stops count list work lent answer tables
-  pub asked : AfterBuildLists answer (serviceOf stops count list) (askRead stops from to w) before after x
+-- Demand 3, last sentence: "refusals 19 and 20 name a real fault"
+pub data RealFault (S : Service) (T : Tables) (r : Refusal) : Type 0 where
+  no-support : (k : ℕ) → Unsupported S T k → r ≡ refusal unsupported k → RealFault S T r
+  missed : (i v : ℕ) → Missed S T i v → r ≡ gapRefusal i v → RealFault S T r

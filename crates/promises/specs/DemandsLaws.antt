@@ -1,46 +1,78 @@
--- Demands 2 and 3 as contracts determine the answer: no second one is the timetable's.
-use Prim.Native.Nat.{ℕ}
-use mathlib.Core.Path.{_≡_, sym, subst, _∙_}
-use mathlib.Core.List.{List}
-use Rattle.journeys.specs.Service.{Service}
-use Rattle.journeys.specs.Journey.{Journey}
-use Rattle.asks.specs.declared.AskRead.{AskRead}
-use Rattle.asks.specs.declared.Wanted.{Wanted}
-use Rattle.asks.specs.declared.Answer.{Answer}
-use Rattle.asks.specs.Asks.{askRead, asked}
-use Rattle.asks.specs.AskLaws.{answers-one}
-use Rattle.timetable.specs.Numbers.{serviceOf}
-use Rattle.tables.specs.OneFile.{AreBytes}
+-- Demands 2 and 3, each with its own hypotheses and its own conclusion. Nothing is assumed of an ask but that it is permitted.
+use Prim.Native.Nat.{ℕ, _+_, _*_, _-_, _≤_}
+use mathlib.Core.Path.{_≡_, refl, sym, ap, subst, _∙_}
+use mathlib.Core.List.{List, _++_}
+use native.Mathlib.Omega.{arith}
+use lib.ListN.{length, replicate}
+use Rattle.kinds.specs.declared.Refusal.{Refusal}
+use Rattle.journeys.specs.AcceptedLaws.{unsupported-real, gap-real}
+use Rattle.tables.specs.declared.TablesRead.the-variants as tables
+use Rattle.tables.specs.File.{placeOf, fileRoom, tablesOf}
+use Rattle.tables.specs.Judged.{judgedTables}
+use Rattle.tables.specs.GoodLaws.{judged-good}
+use Rattle.tables.specs.TablesLaws.{good-tables}
+use Rattle.timetable.specs.declared.Judged.the-variants as judged
+use Rattle.timetable.specs.Numbers.{serviceOf, GoodNumbers}
+use Rattle.timetable.specs.NumbersLaws.{good-service, service-stops, numbers-judged}
+use Rattle.asks.specs.Permitted.{criterionOf}
+use Rattle.asks.specs.PermittedLaws.{ask-permitted}
+use Rattle.ground.specs.Ground.{groundRoom}
 use Rattle.verdict.specs.declared.Verdict.{Verdict}
 use Rattle.verdict.specs.declared.Verdict.the-variants as verdict
-use Rattle.verdict.specs.VerdictLaws.{checked-one}
+use Rattle.verdict.specs.Verdict.{Outcome, unsupported-at, gap-at, all-well, Checked}
+use Rattle.verdict.specs.VerdictLaws.{accepted-tables}
+use Rattle.rides.specs.AcceptedLaws.{enough-room}
 use Rattle.builder.specs.declared.BuildAnswer.{BuildAnswer}
 use Rattle.builder.specs.declared.BuildAnswer.the-variants as build
-use Rattle.builder.specs.BuildLaws.{build-one}
-use Rattle.promises.specs.Demands.{AfterCheck, CheckedAsk, AfterBuild, BuiltAsk}
+use Rattle.builder.specs.Build.{buildRoom, RuleFile, BuiltOf, over, short, built, BuildOf, refused, good}
+use Rattle.promises.specs.Demands.{BestAsked, Builds, the-rule, too-many, RealFault, no-support, missed}
+use Rattle.promises.specs.Calls.{TimetableAnswers, TimetableLists, Serves}
+use Rattle.promises.specs.AcceptedLaws.{outcome, accepted-serves}
+use Rattle.promises.specs.BuiltLaws.{file-serves}
 
-after-one : (v : Verdict) (S : Service) (q : AskRead) (x y : Answer) → AfterCheck v S q x → AfterCheck v S q y → x ≡ y
-after-one verdict.Accepted S q x y f g = answers-one (Journey S) q x y f g
-after-one (verdict.No r) S q x y f g = f ∙ sym g
+-- over a file that serves, every permitted ask gets the best
+pub serves-best : {stops count : ℕ} {runs file : List ℕ} → GoodNumbers stops count runs → Serves stops count runs file → BestAsked stops count runs file
+serves-best {stops} {count} {runs} {file} g s = record {
+  asks = λ from to w p x f. subst (λ k. TimetableAnswers (serviceOf stops count runs) k x) (ask-permitted stops from to w p) (s .asks from to w x f);
+  rides = λ from to w p lent h before after long x f.
+      enough-room (good-service g) (tablesOf file) (record { from = from; to = to; criterion = criterionOf w }) before after x long
+      (subst (λ k. TimetableLists (serviceOf stops count runs) (tablesOf file) k before after x) (ask-permitted stops from to w p) (s .rides lent from to w before after x h f));
+}
 
--- checked_ask has one answer
-pub checked-ask-one : (b : List ℕ) (stops count : ℕ) (list : List ℕ) (lent from to : ℕ) (w : Wanted) (x y : Answer) →
-    CheckedAsk b stops count list lent from to w x → CheckedAsk b stops count list lent from to w y → x ≡ y
-checked-ask-one b stops count list lent from to w x y f g =
-    let same : f .verdict ≡ g .verdict = checked-one b stops count list lent (f .checked) (g .checked) in
-    after-one (g .verdict) (serviceOf stops count list) (asked b from to w) x y
-    (subst (λ v. AfterCheck v (serviceOf stops count list) (asked b from to w) x) same (f .answer)) (g .answer)
+-- Demand 2. "Our builder writes exactly the tables of the label rule; over them early, late and short equal the best among all journeys, "no journey" exactly when
+-- there is none, and the listed rides are such a journey": a valid timetable, the working room, and room for the greatest file
+pub demand-2 : (stops count : ℕ) (runs : List ℕ) → GoodNumbers stops count runs → (work lent : ℕ) → buildRoom ≤ work → fileRoom ≤ lent → (answer : BuildAnswer) (tables : List ℕ) →
+    BuildOf stops count runs work lent answer tables → Builds stops count runs lent answer tables
+demand-2 stops count runs g work lent h room answer tables (refused r j a t) =
+    let e = sym j ∙ numbers-judged stops count runs work buildRoom g h in
+    let z : _≡_ {A = ℕ} 0 1 = cc in
+    absurd (omega arith)
+demand-2 stops count runs g work lent h room answer tables (good j b) = from-built b
+  where
+    from-built : BuiltOf (serviceOf stops count runs) lent answer tables → Builds stops count runs lent answer tables
+    from-built (over k R m a t) = too-many k R m a t
+    from-built (short k R m l a t) = absurd (omega (arith, g .few, service-stops stops count runs))
+    from-built (built k file R m l F e a t) =
+        the-rule file k F R (serves-best g (file-serves g F)) (a ∙ ap (λ n. build.Built n k) (sym e)) (t ∙ ap (λ (n : ℕ). file ++ replicate (lent - n) 0) (sym e))
 
-built-after-one : (b : BuildAnswer) (S : Service) (q : AskRead) (x y : Answer) → AfterBuild b S q x → AfterBuild b S q y → x ≡ y
-built-after-one (build.Built length labels) S q x y f g = answers-one (Journey S) q x y f g
-built-after-one (build.No r) S q x y f g = f ∙ sym g
+-- Demand 3. "If the check accepts tables, whoever made them, every ask gets the timetable's best"
+pub demand-3 : (b : List ℕ) (stops count : ℕ) (runs : List ℕ) (lent : ℕ) → Checked b stops count runs lent verdict.Accepted → BestAsked stops count runs b
+demand-3 b stops count runs lent c = serves-best (accepted-tables b stops count runs lent c refl .numbers) (accepted-serves b stops count runs lent c)
 
--- built_ask has one answer and leaves one file
-pub built-ask-one : (stops count : ℕ) (list : List ℕ) (work lent from to : ℕ) (w : Wanted) (s t : List ℕ) (x y : Answer) → AreBytes s → AreBytes t →
-    BuiltAsk stops count list work lent from to w s x → BuiltAsk stops count list work lent from to w t y → (x ≡ y) × (s ≡ t)
-built-ask-one stops count list work lent from to w s t x y p q f g =
-    let same = build-one p q (f .built) (g .built) in (
-      built-after-one (g .answer) (serviceOf stops count list) (askRead stops from to w) x y
-          (subst (λ b. AfterBuild b (serviceOf stops count list) (askRead stops from to w) x) (same .0) (f .asked)) (g .asked),
-      same .1,
-    )
+-- "the rule's own tables are always accepted"
+pub demand-3-rule : (b : List ℕ) (stops count : ℕ) (runs : List ℕ) (lent : ℕ) → GoodNumbers stops count runs → RuleFile (serviceOf stops count runs) b → groundRoom ≤ lent →
+    (r : Verdict) → Checked b stops count runs lent r → r ≡ verdict.Accepted
+demand-3-rule b stops count runs lent g F h r c = file-serves g F .accepted lent h r c
+
+-- "refusals 19 and 20 name a real fault": a valid timetable, well-formed tables of its stop count, the working room, and a refusal
+pub demand-3-fault : (b : List ℕ) (stops count : ℕ) (runs : List ℕ) (lent : ℕ) → GoodNumbers stops count runs → judgedTables b ≡ tables.Good stops → groundRoom ≤ lent →
+    (r : Refusal) → Checked b stops count runs lent (verdict.No r) → RealFault (serviceOf stops count runs) (tablesOf b) r
+demand-3-fault b stops count runs lent g e h r c = from-outcome (outcome b g e h c)
+  where
+    same : {x y : Refusal} → verdict.No x ≡ verdict.No y → x ≡ y
+    same f = cc
+
+    from-outcome : Outcome (serviceOf stops count runs) (tablesOf b) (verdict.No r) → RealFault (serviceOf stops count runs) (tablesOf b) r
+    from-outcome (unsupported-at k u f) = no-support k (unsupported-real (good-service g) (good-tables (judged-good b stops e)) (u .fault)) (same f)
+    from-outcome (gap-at i v u f) = missed i v (gap-real (good-tables (judged-good b stops e)) (u .supported) (u .fault)) (same f)
+    from-outcome (all-well a f) = let z : _≡_ {A = ℕ} 0 1 = cc in absurd (omega arith)

@@ -1,4 +1,6 @@
 pub mod Demands
-pub mod Accepted
-pub mod Built
+pub mod Calls
+pub mod AcceptedLaws
+pub mod BuiltLaws
 pub mod DemandsLaws
+pub mod CallsLaws

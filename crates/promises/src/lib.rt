@@ -1,5 +1,5 @@
 // Demands 2 and 3 as functions: tables of the builder are asked; tables from anyone are checked, and only then asked. Their contracts speak of
-// the timetable's journeys only.
+// the timetable's journeys.
 use asks::Answer;
 use asks::Wanted;
 use builder::BuildAnswer;
@@ -8,7 +8,7 @@ use verdict::Verdict;
 ghost use mathlib.Core.Path.{_≡_};
 ghost use lib.ListN.{length};
 ghost use Rattle.loops.specs.Zero.{zeros};
-ghost use Rattle.promises.specs.Demands.{CheckedAsk, CheckedRides, BuiltAsk, BuiltRides};
+ghost use Rattle.promises.specs.Calls.{CheckedAsk, CheckedRides, BuiltAsk, BuiltRides};
 
 // Any ask of tables that the check accepts against the timetable; else the check's refusal.
 pub fn checked_ask(
@@ -66,7 +66,7 @@ pub fn checked_rides(
     }
 }
 
-// Any ask of the tables that the builder writes of the timetable; else the builder's refusal.
+// Any ask of the tables that the builder writes of the timetable; else the builder's refusal. Whatever is refused, the tables end zero.
 pub fn built_ask(
     stops: u32,
     run_count: u32,
@@ -82,12 +82,16 @@ pub fn built_ask(
 {
     let answer = builder::build(stops, run_count, runs, tables, work);
     match answer {
-        BuildAnswer::Built(length, _labels) => asks::answered(
-            &tables[..length as usize],
-            from,
-            to,
-            w,
-        ),
+        BuildAnswer::Built(length, _labels) => {
+            let asked = asks::answered(&tables[..length as usize], from, to, w);
+            match asked {
+                Answer::At(j) => Answer::At(j),
+                Answer::No(r) => {
+                    loops::zero_u8(tables);
+                    Answer::No(r)
+                }
+            }
+        }
         BuildAnswer::No(r) => Answer::No(r),
     }
 }
@@ -109,17 +113,26 @@ pub fn built_rides(
 {
     let answer = builder::build(stops, run_count, runs, tables, work);
     match answer {
-        BuildAnswer::Built(length, _labels) => rides::answered(
-            &tables[..length as usize],
-            stops,
-            run_count,
-            runs,
-            from,
-            to,
-            w,
-            list,
-            work,
-        ),
+        BuildAnswer::Built(length, _labels) => {
+            let asked = rides::answered(
+                &tables[..length as usize],
+                stops,
+                run_count,
+                runs,
+                from,
+                to,
+                w,
+                list,
+                work,
+            );
+            match asked {
+                RidesAnswer::At(j) => RidesAnswer::At(j),
+                RidesAnswer::No(r) => {
+                    loops::zero_u8(tables);
+                    RidesAnswer::No(r)
+                }
+            }
+        }
         BuildAnswer::No(r) => {
             loops::zero_u32(list);
             RidesAnswer::No(r)

@@ -1,16 +1,18 @@
 -- What a timetable text means: line by line, with what was read so far; "The first bad line decides."
-use Prim.Native.Nat.{ℕ, zero, suc, _+_, _*_}
+use Prim.Native.Nat.{ℕ, zero, suc, _+_, _*_, _≤_, _<_}
+use mathlib.Core.Path.{_≡_}
 use mathlib.Core.List.{List, [], _∷_}
-use mathlib.Core.Bool.{cond}
-use lib.ListN.{length, replicate}
+use mathlib.Core.Bool.{true, false, cond}
+use lib.ListN.{length, getD, replicate}
 use lib.Dec.{ltb, leb}
 use Rattle.loops.specs.Put.{putFrom}
-use Rattle.kinds.specs.Limits.{runNumbers, runsRoom, codesRoom, mostText}
+use Rattle.kinds.specs.Limits.{mostStops, mostRuns, runNumbers, runsRoom, codesRoom, mostText}
 use Rattle.kinds.specs.Refusals.{refusal, firstLine, lineShape, overLimit, roomShort}
+use Rattle.kinds.specs.Kinds.{GoodRun}
 use Rattle.kinds.specs.declared.Code.{Code}
 use Rattle.kinds.specs.declared.Run.{Run}
-use Rattle.words.specs.Words.{lf, seek, beginsB}
-use Rattle.lookup.specs.Lookup.{putCode}
+use Rattle.words.specs.Words.{lf, seek, beginsB, isCode}
+use Rattle.lookup.specs.Lookup.{startOf, lengthOf, hasCode, putCode, Placed}
 use Rattle.lines.specs.Lines.{lineOf}
 use Rattle.lines.specs.declared.Line.{Line}
 use Rattle.lines.specs.declared.Line.the-variants as line
@@ -88,3 +90,24 @@ runsOf (bad n p) room = replicate room 0
 abbrev pub codesOf : Outcome → ℕ → List ℕ
 codesOf (whole b) room = b .codes
 codesOf (bad n p) room = replicate room 0
+
+-- run i of the list is a good run
+abbrev pub GoodAt : ℕ → List ℕ → ℕ → Type 0
+GoodAt stops l i =
+    GoodRun stops (getD l (runNumbers * i) 0) (getD l (runNumbers * i + 1) 0) (getD l (runNumbers * i + 2) 0) (getD l (runNumbers * i + 3) 0) (getD l (runNumbers * i + 4) 0)
+
+-- So many stops and runs, read from the text s into rooms of these lengths, which now hold these numbers and codes.
+pub record GoodRead (s : List ℕ) (roomR roomC stops runs : ℕ) (numbers codes : List ℕ) : Type 0 where
+  pub few : stops ≤ mostStops
+  pub few-runs : runs ≤ mostRuns
+  pub numbers-long : length numbers ≡ roomR
+  pub codes-long : length codes ≡ roomC
+  -- each run is good among the stops
+  pub good : (i : ℕ) → i < runs → GoodAt stops numbers i
+  -- each code stands in the text and is a code, and no other stop has it
+  pub placed : Placed s codes stops
+  pub coded : (j : ℕ) → j < stops → isCode s (startOf codes j) (lengthOf codes j) ≡ true
+  pub apart : (i j : ℕ) → i < j → j < stops → hasCode s codes s (startOf codes j) (lengthOf codes j) i ≡ false
+  -- beyond what was written there are zeros
+  pub numbers-zero : (k : ℕ) → runNumbers * runs ≤ k → getD numbers k 0 ≡ 0
+  pub codes-zero : (k : ℕ) → 2 * stops ≤ k → getD codes k 0 ≡ 0

@@ -12,20 +12,20 @@ use borrow.Author.Tests.{ltb-false, leb-false}
 use Rattle.loops.specs.Chain.{past, stays}
 use Rattle.loops.specs.PutLaws.{put-length, put-before, put-after, put-at}
 use Rattle.kinds.specs.Limits.{mostStops, mostRuns, mostText, runNumbers, runsRoom, codesRoom}
-use Rattle.kinds.specs.KindsLaws.{GoodRun}
+use Rattle.kinds.specs.Kinds.{GoodRun}
 use Rattle.kinds.specs.declared.Code.{Code}
 use Rattle.kinds.specs.declared.Run.{Run}
 use Rattle.words.specs.Words.{lf, seek, beginsB, isCode}
 use Rattle.words.specs.WordsLaws.{seek-low, seek-high, begins-long}
-use Rattle.lookup.specs.Lookup.{startOf, lengthOf, hasCode, putCode}
-use Rattle.lookup.specs.LookupLaws.{Placed, named-none, has-kept, code-length, start-put, length-put, start-kept, length-kept, placed-more}
+use Rattle.lookup.specs.Lookup.{startOf, lengthOf, hasCode, putCode, Placed}
+use Rattle.lookup.specs.LookupLaws.{named-none, has-kept, code-length, start-put, length-put, start-kept, length-kept, placed-more}
 use Rattle.lines.specs.Lines.{lineOf}
 use Rattle.lines.specs.LinesLaws.{FineStop, FineRun, FineLine, line-fine}
 use Rattle.lines.specs.declared.Line.{Line}
 use Rattle.lines.specs.declared.Line.the-variants as kind
 use Rattle.reader.specs.declared.Counts.{Counts}
 use Rattle.reader.specs.declared.ReadAnswer.the-variants.{Read}
-use Rattle.reader.specs.Text.{Sofar, Outcome, whole, bad, putRun, withStop, withRun, next, readFrom, firstWord, start, readText, answerOf, runsOf, codesOf}
+use Rattle.reader.specs.Text.{Sofar, Outcome, whole, bad, putRun, withStop, withRun, next, readFrom, firstWord, start, readText, answerOf, runsOf, codesOf, GoodAt, GoodRead}
 
 -- run i of the list is this one
 pub record RunIs (l : List ℕ) (i : ℕ) (r : Run) : Type 0 where
@@ -70,29 +70,8 @@ module _ (l : List ℕ) (k : ℕ) (r : Run) where
   unfolding putRun numbers
   run-after j h = put-after l (runNumbers * k) numbers j h
 
--- run i of the list is a good run
-abbrev pub GoodAt : ℕ → List ℕ → ℕ → Type 0
-GoodAt stops l i =
-    GoodRun stops (getD l (runNumbers * i) 0) (getD l (runNumbers * i + 1) 0) (getD l (runNumbers * i + 2) 0) (getD l (runNumbers * i + 3) 0) (getD l (runNumbers * i + 4) 0)
-
 good-at : {stops : ℕ} {l : List ℕ} {i : ℕ} {r : Run} → RunIs l i r → GoodRun stops (r .from) (r .to) (r .dep) (r .arr) (r .trip) → GoodAt stops l i
 good-at s g = rw (s .from-is, s .to-is, s .dep-is, s .arr-is, s .trip-is) g
-
--- So many stops and runs, read from the text s into rooms of these lengths, which now hold these numbers and codes.
-pub record GoodRead (s : List ℕ) (roomR roomC stops runs : ℕ) (numbers codes : List ℕ) : Type 0 where
-  pub few : stops ≤ mostStops
-  pub few-runs : runs ≤ mostRuns
-  pub numbers-long : length numbers ≡ roomR
-  pub codes-long : length codes ≡ roomC
-  -- each run is good among the stops
-  pub good : (i : ℕ) → i < runs → GoodAt (stops) numbers i
-  -- each code stands in the text and is a code, and no other stop has it
-  pub placed : Placed s codes (stops)
-  pub coded : (j : ℕ) → j < stops → isCode s (startOf codes j) (lengthOf codes j) ≡ true
-  pub apart : (i j : ℕ) → i < j → j < stops → hasCode s codes s (startOf codes j) (lengthOf codes j) i ≡ false
-  -- beyond what was written there are zeros
-  pub numbers-zero : (k : ℕ) → runNumbers * runs ≤ k → getD numbers k 0 ≡ 0
-  pub codes-zero : (k : ℕ) → 2 * stops ≤ k → getD codes k 0 ≡ 0
 
 -- a list of zeros has zeros everywhere
 zero-at : (n k : ℕ) → _≡_ {A = ℕ} (getD (replicate n 0) k 0) 0

@@ -3,8 +3,8 @@ use mathlib.Core.Path.{_≡_, refl}
 use mathlib.Core.Bool.{true, false}
 use Rattle.kinds.specs.Refusals.{refusal, stopUnknown, overLimit, unsupported, gap}
 use Rattle.kinds.specs.declared.Code.{Code}
+use Rattle.words.specs.Bytes.{bytes}
 use Rattle.printed.specs.Printed.{decimal, decimalIn}
-use Rattle.report.specs.Texts.{bytes}
 use Rattle.report.specs.Words.{wordsOf, refusalLine}
 use Rattle.report.specs.Lines.{labelLine, entryLine, runLine, stopLine, writtenLine, moreLine}
 use Rattle.report.specs.declared.Change.the-variants.{Direct, At}

@@ -4,10 +4,11 @@ use Prim.Native.String.{String}
 use mathlib.Core.List.{List, [], _∷_}
 use mathlib.Core.Bool.{Bool, true, false}
 use Rattle.kinds.specs.declared.Code.{Code}
+use Rattle.words.specs.Bytes.{bytes}
 use Rattle.words.specs.Words.{space}
 use Rattle.printed.specs.Printed.{decimal, codeOf}
 use Rattle.printed.specs.Wrote.{CodeIn}
-use Rattle.report.specs.Texts.{bytes, counted, named, saying}
+use Rattle.report.specs.Texts.{counted, named, saying}
 use Rattle.report.specs.declared.Change.{Change}
 use Rattle.report.specs.declared.Change.the-variants.{Direct, At}
 use Rattle.report.specs.declared.Pivot.{Pivot}

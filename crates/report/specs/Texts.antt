@@ -1,16 +1,11 @@
--- Texts of these pages as bytes, and the pieces that the printed lines are made of.
+-- The pieces that the printed lines are made of.
 use Prim.Native.Nat.{ℕ}
-use Prim.Native.Char.{code}
-use Prim.Native.String.{String, [] as nothing, _∷_ as _before_}
+use Prim.Native.String.{String}
 use mathlib.Core.List.{List, [], _∷_, _++_}
 use Rattle.kinds.specs.declared.Code.{Code}
+use Rattle.words.specs.Bytes.{bytes}
 use Rattle.words.specs.Words.{lf, space}
 use Rattle.printed.specs.Printed.{decimal, codeOf}
-
--- a text, as bytes: each of its characters is one byte
-abbrev pub bytes : String → List ℕ
-bytes nothing = []
-bytes (c before t) = code c ∷ bytes t
 
 -- a text and a number; a text and a code, which stands in the timetable text s
 abbrev pub counted : String → ℕ → List ℕ

@@ -6,7 +6,8 @@ use mathlib.Core.Bool.{cond}
 use lib.Dec.{eqb, leb}
 use Rattle.kinds.specs.Refusals.{firstLine, lineShape, codeBad, codeRepeated, stopUnknown, ownStop, outOfRange, overLimit, noTables, tablesLength, labelBad, stopHigh, sameStop, minuteHigh, minutesCrossed, noJourney, roomShort, ridesMissing, unsupported, gap, stopsDiffer, labelsOver}
 use Rattle.kinds.specs.declared.Refusal.{Refusal}
-use Rattle.report.specs.Texts.{bytes, counted, saying}
+use Rattle.words.specs.Bytes.{bytes}
+use Rattle.report.specs.Texts.{counted, saying}
 
 -- "Numbers given back": each number with its meaning
 pub record Meaning : Type 0 where

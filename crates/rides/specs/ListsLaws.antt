@@ -29,10 +29,10 @@ use Rattle.asks.specs.declared.Wanted.{Wanted}
 use Rattle.asks.specs.declared.Asked.{Asked}
 use Rattle.asks.specs.declared.AskRead.{AskRead}
 use Rattle.asks.specs.declared.AskRead.the-variants as ask
-use Rattle.asks.specs.Asks.{ifTables, askRead}
-use Rattle.asks.specs.AskLaws.{GoodAsk, ask-good}
+use Rattle.asks.specs.Asks.{ifTables, askRead, GoodAsk}
+use Rattle.asks.specs.AskLaws.{ask-good}
 use Rattle.ground.specs.Ground.{groundRoom, judgedBoth}
-use Rattle.ground.specs.GroundLaws.{BothGood, both-good}
+use Rattle.ground.specs.GroundLaws.{BothGood, both-good, judged-both}
 use Rattle.opening.specs.Opening as opening
 use Rattle.rides.specs.declared.Listed.{Listed}
 use Rattle.rides.specs.declared.RidesAnswer.{RidesAnswer}
@@ -63,6 +63,12 @@ module _ (b : List ℕ) (stops count : ℕ) (runs : List ℕ) (lent from to : �
             room = g .room;
             good = subst (λ m. GoodAsk m q) (g .same) (ask-good n from to w q h);
           }
+
+-- over good tables and good numbers, with the working room, an ask is judged by the stop count alone
+pub rides-asked-of : (b : List ℕ) (stops count : ℕ) (runs : List ℕ) (lent from to : ℕ) (w : Wanted) → judgedTables b ≡ tables.Good stops → GoodNumbers stops count runs → groundRoom ≤ lent →
+    ridesAsked b stops count runs lent from to w ≡ askRead stops from to w
+unfolding ridesAsked
+rides-asked-of b stops count runs lent from to w e g h = rw (judged-both b stops count runs lent e g h) refl
 
 -- ---- what is listed
 
@@ -108,23 +114,21 @@ module _ (S : Service) (T : Tables) (q : Asked) where
 
 -- ---- no second answer and no second list meet the contract
 
+-- the rides of the best pair, of whatever pairs it is the best, are one list
+pub one-list : {S : Service} {T : Tables} → GoodTables T → (q : Asked) (P : ℕ → ℕ → Type 0) {d a e b : ℕ} {l m : List ℕ} → Best P (q .criterion) d a → Best P (q .criterion) e b →
+    Chosen S T (q .from) (q .to) d a l → Chosen S T (q .from) (q .to) e b m → l ≡ m
+one-list {S} {T} G q P {m = m} x y f g =
+    let s = best-one (q .criterion) y x in
+    chosen-one G f (subst₂ (λ d a. Chosen S T (q .from) (q .to) d a m) (s .0) (s .1) g)
+
+pub same-listed : {d a e b k j : ℕ} → d ≡ e → a ≡ b → k ≡ j → _≡_ {A = Listed} (record { dep = d; arr = a; rides = k }) (record { dep = e; arr = b; rides = j })
+same-listed e f g = cc
+
 module _ (S : Service) (T : Tables) (q : Asked) (G : GoodTables T) where
-  abbrev Pair : ℕ → ℕ → Type 0
-  Pair d a = Best (Sketch T (q .from) (q .to)) (q .criterion) d a
-
-  -- the rides of the best pair are one list
-  one-list : {d a e b : ℕ} {l m : List ℕ} → Pair d a → Pair e b → Chosen S T (q .from) (q .to) d a l → Chosen S T (q .from) (q .to) e b m → l ≡ m
-  one-list {m = m} x y f g =
-      let s = best-one (q .criterion) y x in
-      chosen-one G f (subst₂ (λ d a. Chosen S T (q .from) (q .to) d a m) (s .0) (s .1) g)
-
-  same-listed : {d a e b k j : ℕ} → d ≡ e → a ≡ b → k ≡ j → _≡_ {A = Listed} (record { dep = d; arr = a; rides = k }) (record { dep = e; arr = b; rides = j })
-  same-listed e f g = cc
-
   listed-one : (before x y : List ℕ) (j k : Listed) → ListedAs S T q before x j → ListedAs S T q before y k → (j ≡ k) × (x ≡ y)
   listed-one before x y j k f g =
       let s = best-one (q .criterion) (f .best) (g .best) in
-      let e = one-list (f .best) (g .best) (f .chosen) (g .chosen) in
+      let e = one-list G q (Sketch T (q .from) (q .to)) (f .best) (g .best) (f .chosen) (g .chosen) in
       (same-listed (s .0) (s .1) (f .count ∙ ap length e ∙ sym (g .count)), f .holds ∙ ap (λ l. l ++ replicate (length before - length l) 0) e ∙ sym (g .holds))
 
   -- what is listed is not refused
@@ -133,7 +137,7 @@ module _ (S : Service) (T : Tables) (q : Asked) (G : GoodTables T) where
   not-both before after j r f (missing e d a B n) =
       let s = best-one (q .criterion) (f .best) B in
       n (f .rides) (subst₂ (λ d a. Chosen S T (q .from) (q .to) d a (f .rides)) (s .0) (s .1) (f .chosen))
-  not-both before after j r f (short e d a B l C lt) = omega (arith, f .fits, ap length (one-list (f .best) B (f .chosen) C))
+  not-both before after j r f (short e d a B l C lt) = omega (arith, f .fits, ap length (one-list G q (Sketch T (q .from) (q .to)) (f .best) B (f .chosen) C))
 
   -- and one refusal is given
   refused-one : (room : ℕ) (r s : Refusal) → RefusedAs S T q room r → RefusedAs S T q room s → r ≡ s

@@ -17,7 +17,7 @@ ghost use Rattle.tables.specs.File.{tablesOf};
 ghost use Rattle.timetable.specs.Numbers.{serviceOf};
 ghost use Rattle.asks.specs.declared.AskRead.the-variants as ask;
 ghost use Rattle.asks.specs.declared.Wanted.the-variants as wanted;
-ghost use Rattle.asks.specs.AskLaws.{GoodAsk};
+ghost use Rattle.asks.specs.Asks.{GoodAsk};
 ghost use Rattle.ground.specs.Ground.{Ground};
 ghost use Rattle.rides.specs.Lists.{ridesAsked, Lists};
 

@@ -7,9 +7,8 @@ use native.Mathlib.Decide.{decLe, decLt}
 use Rattle.kinds.specs.Limits.{lastMinute}
 use Rattle.journeys.specs.declared.Criterion.the-variants.{Early}
 use Rattle.journeys.specs.Service.{Service, GoodService}
-use Rattle.journeys.specs.Journey.{Journey}
+use Rattle.journeys.specs.Journey.{Journey, Within}
 use Rattle.journeys.specs.Criteria.{Best, Nothing}
-use Rattle.journeys.specs.PairLaws.{Within}
 use Rattle.journeys.specs.JourneyLaws.{journey-last}
 use Rattle.journeys.specs.EarliestLaws.{Earliest, earliest}
 

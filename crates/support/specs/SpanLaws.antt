@@ -11,7 +11,7 @@ use borrow.Author.Tests.{eq-eqb, ne-eqb}
 use Rattle.loops.specs.Tells.{Tells}
 use Rattle.loops.specs.TellsLaws.{tells-yes, tells-no, tells-as}
 use Rattle.kinds.specs.Limits.{noPivot}
-use Rattle.kinds.specs.KindsLaws.{GoodPivot}
+use Rattle.kinds.specs.Kinds.{GoodPivot}
 use Rattle.kinds.specs.declared.Label.{Label}
 use Rattle.journeys.specs.Service.{Service}
 use Rattle.journeys.specs.Tables.{Side, outs, ins, Tables, Entry, of-out, of-in}

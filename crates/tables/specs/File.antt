@@ -1,5 +1,5 @@
 -- The tables file: what its bytes say. How they are judged is in Judged.antt.
-use Prim.Native.Nat.{ℕ, zero, suc, _+_, _*_, _/_}
+use Prim.Native.Nat.{ℕ, zero, suc, _+_, _*_, _/_, _<_}
 use mathlib.Core.List.{List}
 use mathlib.Core.Bool.{cond}
 use mathlib.Core.Option.{Option, none, some}
@@ -75,3 +75,7 @@ tablesOf b =
 
 abbrev pub boundsOf : Tables → Side → ℕ → Bounds
 boundsOf T side s = record { start = T .start side s; end = T .end side s }
+
+-- the bytes of a slice are bytes
+abbrev pub AreBytes : List ℕ → Type 0
+AreBytes b = (i : ℕ) → getD b i 0 < 256

@@ -4,7 +4,7 @@ use mathlib.Core.Path.{_≡_}
 use mathlib.Core.List.{List}
 use lib.ListN.{length, getD}
 use Rattle.kinds.specs.Limits.{mostStops, mostLabels}
-use Rattle.kinds.specs.KindsLaws.{GoodLabel}
+use Rattle.kinds.specs.Kinds.{GoodLabel}
 use Rattle.kinds.specs.declared.Label.{Label}
 use Rattle.tables.specs.Format.{formatMark, headerBytes, entryBytes}
 use Rattle.tables.specs.File.{stopsOf, ownerOf, countOf, startOf, labelsOf, placeOf, labelAt}

@@ -13,8 +13,8 @@ use borrow.Author.Tests.{lt-ltb, le-ltb, lt-leb, le-leb, eq-eqb, ne-eqb, ltb-tru
 use Rattle.loops.specs.Chain.{past, stays}
 use Rattle.loops.specs.FirstOfLaws.{first-of-clear, first-of-all}
 use Rattle.kinds.specs.Limits.{noPivot, lastMinute, mostStops, mostLabels}
-use Rattle.kinds.specs.Kinds.{labelOf, isStopCount}
-use Rattle.kinds.specs.KindsLaws.{GoodPivot, label-good, stop-count}
+use Rattle.kinds.specs.Kinds.{labelOf, isStopCount, GoodPivot}
+use Rattle.kinds.specs.KindsLaws.{label-good, stop-count}
 use Rattle.kinds.specs.declared.Label.{Label}
 use Rattle.kinds.specs.declared.LabelRead.{LabelRead}
 use Rattle.kinds.specs.declared.LabelRead.the-variants as label

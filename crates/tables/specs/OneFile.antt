@@ -15,17 +15,13 @@ use Rattle.kinds.specs.declared.Label.{Label}
 use Rattle.journeys.specs.Tables.{Side, Tables, Entry}
 use Rattle.tables.specs.declared.TablesRead.the-variants.{Good}
 use Rattle.tables.specs.Format.{headerBytes, entryBytes, labelBytes, noPivotByte}
-use Rattle.tables.specs.File.{twoAt, stopsOf, setOf, countOf, startOf, labelsOf, placeOf, pivotRead, labelAt, pivotOf, tablesOf}
+use Rattle.tables.specs.File.{twoAt, stopsOf, setOf, countOf, startOf, labelsOf, placeOf, pivotRead, labelAt, pivotOf, tablesOf, AreBytes}
 use Rattle.tables.specs.Judged.{judgedTables}
 use Rattle.tables.specs.FileLaws.{located}
 use Rattle.tables.specs.Good.{After, GoodFile}
 use Rattle.tables.specs.GoodLaws.{after-trans, after-irrefl, judged-good}
 use Rattle.tables.specs.TablesLaws.{set-cases, pivot-is, pivot-none, pivot-some, set-below, rises}
 use Rattle.tables.specs.WriteLaws.{start-same}
-
--- the bytes of a slice are bytes
-abbrev pub AreBytes : List ℕ → Type 0
-AreBytes b = (i : ℕ) → getD b i 0 < 256
 
 -- each label of the one tables stands in the other, at whatever number
 abbrev pub SameLabels : Tables → Tables → Type 0

@@ -11,7 +11,7 @@ use lib.Dec.{eqb}
 use borrow.Author.Tests.{eq-eqb, ne-eqb, eqb-false}
 use Rattle.loops.specs.Chain.{past}
 use Rattle.kinds.specs.Limits.{noPivot}
-use Rattle.kinds.specs.KindsLaws.{GoodPivot}
+use Rattle.kinds.specs.Kinds.{GoodPivot}
 use Rattle.kinds.specs.declared.Label.{Label}
 use Rattle.journeys.specs.Tables.{Side, outs, ins, Tables, Entry, GoodTables}
 use Rattle.tables.specs.File.{stopsOf, setOf, ownerOf, countOf, startOf, endOf, labelsOf, labelAt, pivotOf, tablesOf}

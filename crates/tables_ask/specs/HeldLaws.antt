@@ -7,7 +7,7 @@ use lib.ListN.{length, take, replicate, length-replicate}
 use lib.Seq.{length-take-le}
 use Rattle.kinds.specs.Limits.{mostText, mostInput, runsRoom, codesRoom, lastMinute}
 use Rattle.reader.specs.declared.Counts.{Counts}
-use Rattle.reader.specs.TextLaws.{GoodRead}
+use Rattle.reader.specs.Text.{GoodRead}
 use Rattle.ground.specs.Ground.{groundRoom}
 use Rattle.desk.specs.Told.{Accepts}
 use Rattle.output.specs.Steps.{Ready}

@@ -9,8 +9,7 @@ use Rattle.loops.specs.Unless.{unless}
 use Rattle.loops.specs.FirstOf.{firstOf}
 use Rattle.kinds.specs.Limits.{mostStops, mostRuns, runNumbers}
 use Rattle.kinds.specs.Refusals.{overLimit, roomShort, refusal}
-use Rattle.kinds.specs.Kinds.{isStopCount, isRunCount, runOf}
-use Rattle.kinds.specs.KindsLaws.{GoodRun}
+use Rattle.kinds.specs.Kinds.{isStopCount, isRunCount, runOf, GoodRun}
 use Rattle.kinds.specs.declared.Refusal.{Refusal}
 use Rattle.kinds.specs.declared.Run.{Run}
 use Rattle.kinds.specs.declared.RunRead.{RunRead}

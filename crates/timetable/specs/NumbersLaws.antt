@@ -1,18 +1,18 @@
 -- What judged numbers promise, for those who read them.
 use Prim.Native.Nat.{ℕ, _*_, _≤_, _<_}
-use mathlib.Core.Path.{_≡_, refl}
+use mathlib.Core.Path.{_≡_, refl, ap}
 use mathlib.Core.List.{List}
 use mathlib.Core.Option.{Option, none, some}
 use native.Mathlib.Omega.{arith}
 use lib.ListN.{length}
 use lib.Dec.{leb}
-use borrow.Author.Tests.{leb-true}
+use borrow.Author.Tests.{leb-true, le-leb}
 use Rattle.loops.specs.Chain.{stays}
 use Rattle.loops.specs.FirstOf.{firstOf}
-use Rattle.loops.specs.FirstOfLaws.{first-of-clear}
+use Rattle.loops.specs.FirstOfLaws.{first-of-clear, first-of-all}
 use Rattle.kinds.specs.Limits.{runNumbers}
 use Rattle.kinds.specs.Kinds.{isStopCount, isRunCount}
-use Rattle.kinds.specs.KindsLaws.{stop-count, run-count, run-good}
+use Rattle.kinds.specs.KindsLaws.{stop-count, count-is, run-count, run-count-is, run-good, run-is}
 use Rattle.kinds.specs.declared.Refusal.{Refusal}
 use Rattle.kinds.specs.declared.Run.{Run}
 use Rattle.kinds.specs.declared.RunRead.{RunRead}
@@ -56,6 +56,14 @@ judged-good stops count list lent needed e =
       },
       leb-true needed lent (z₄ .0),
     )
+
+-- and good numbers are judged good, with working room enough
+pub numbers-judged : (stops count : ℕ) (list : List ℕ) (lent needed : ℕ) → GoodNumbers stops count list → needed ≤ lent → judgedOf stops count list lent needed ≡ Good
+unfolding judgedOf readRun
+numbers-judged stops count list lent needed g h =
+    let clear : firstOf (refusedRun stops list) count ≡ none =
+    first-of-all (refusedRun stops list) count (λ i lt. ap (λ (x : RunRead). refusedBy x i) (run-is _ _ _ _ _ _ (g .runs i lt))) in
+    rw (count-is stops (g .some) (g .few), run-count-is count (g .few-runs), le-leb _ _ (g .long), le-leb needed lent h, clear) refl
 
 module _ {stops count : ℕ} {list : List ℕ} (g : GoodNumbers stops count list) where
   -- the service of good numbers is good

@@ -5,7 +5,7 @@ use mathlib.Core.Logic.{_⊎_, _≢_}
 use mathlib.Core.Option.{Option}
 use Rattle.kinds.specs.Limits.{unreached}
 use Rattle.journeys.specs.Tables.{Tables, outs, ins, Entry, Sketch}
-use Rattle.journeys.specs.PairLaws.{Within}
+use Rattle.journeys.specs.Journey.{Within}
 
 -- some out-label of u with hub h leaves at or after d and arrives at e
 pub record OutBy (T : Tables) (u h d e : ℕ) : Type 0 where

@@ -8,7 +8,8 @@ use native.Mathlib.Decide.{ℕ-discrete, decLt}
 use Rattle.kinds.specs.Limits.{lastMinute, unreached}
 use Rattle.journeys.specs.Tables.{Tables, outs, ins, Entry, of-out, of-in, GoodTables, Sketch, single, joined}
 use Rattle.journeys.specs.Check.{NoGap}
-use Rattle.journeys.specs.PairLaws.{Within, wider}
+use Rattle.journeys.specs.Journey.{Within}
+use Rattle.journeys.specs.PairLaws.{wider}
 use Rattle.journeys.specs.SketchLaws.{sketch-last}
 use Rattle.journeys.specs.AcceptedLaws.{no-gap-iff}
 use Rattle.verdict.specs.Early.{Reached, InBy, Arrival, Early}

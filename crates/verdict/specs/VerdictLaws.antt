@@ -119,20 +119,21 @@ module _ {S : Service} {T : Tables} {r : Verdict} (o : Outcome S T r) where
 
 -- ---- what was judged good
 
--- what an accepting answer promises: a good file and good numbers for the same stops, and the tables are accepted
-pub record AcceptedTables (b : List ℕ) (stops count : ℕ) (list : List ℕ) : Type 0 where
+-- what an accepting answer promises: a good file and good numbers for the same stops, the working room, and the tables are accepted
+pub record AcceptedTables (b : List ℕ) (stops count : ℕ) (list : List ℕ) (lent : ℕ) : Type 0 where
   pub file : GoodFile b stops
   pub numbers : GoodNumbers stops count list
+  pub room : groundRoom ≤ lent
   pub accepted : the.Accepted (serviceOf stops count list) (tablesOf b)
 
-pub accepted-tables : (b : List ℕ) (stops count : ℕ) (list : List ℕ) (lent : ℕ) {r : Verdict} → Checked b stops count list lent r → r ≡ Accepted → AcceptedTables b stops count list
+pub accepted-tables : (b : List ℕ) (stops count : ℕ) (list : List ℕ) (lent : ℕ) {r : Verdict} → Checked b stops count list lent r → r ≡ Accepted → AcceptedTables b stops count list lent
 accepted-tables b stops count list lent {r} c e = go (judgedBoth (judgedTables b) (judgedOf stops count list lent groundRoom) stops) (λ n q. both-good b stops count list lent n q) c
   where
-    go : (j : TablesRead) → ((n : ℕ) → j ≡ tables.Good n → BothGood b stops count list lent n) → Answered j (serviceOf stops count list) (tablesOf b) r → AcceptedTables b stops count list
+    go : (j : TablesRead) → ((n : ℕ) → j ≡ tables.Good n → BothGood b stops count list lent n) → Answered j (serviceOf stops count list) (tablesOf b) r → AcceptedTables b stops count list lent
     go (tables.No x) g f = let z : _≡_ {A = ℕ} 0 1 = cc in absurd (omega arith)
     go (tables.Good n) g o =
         let h = g n refl in
-        record { file = subst (GoodFile b) (h .same) (h .file); numbers = subst (λ (m : ℕ). GoodNumbers m count list) (h .same) (h .numbers); accepted = accepts o .0 e }
+        record { file = subst (GoodFile b) (h .same) (h .file); numbers = subst (λ (m : ℕ). GoodNumbers m count list) (h .same) (h .numbers); room = h .room; accepted = accepts o .0 e }
 
 -- ---- the labels
 

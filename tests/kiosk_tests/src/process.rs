@@ -4,12 +4,12 @@ use std::io::Write;
 use std::path::{Path, PathBuf};
 use std::process::{Command, Output, Stdio};
 
-/// Where the programs stand.
+/// Where the programs stand as this machine runs them: `tests/library` puts them there.
 pub fn bin() -> PathBuf {
     Path::new(env!("CARGO_MANIFEST_DIR"))
-        .join("../../target/bin")
+        .join("../../target/run")
         .canonicalize()
-        .expect("the programs stand in target/bin")
+        .expect("the programs stand in target/run: tests/library puts them there")
 }
 
 /// What comes of the command with this input.

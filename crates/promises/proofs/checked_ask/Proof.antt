@@ -1,4 +1,4 @@
-use Rattle.promises.specs.Accepted.{after-accepted, after-refused}
+use Rattle.promises.specs.AcceptedLaws.{after-accepted, after-refused}
 use borrow.Author.Needs.{needs}
 use Rattle.promises.proofs.checked_ask.Statement.{statement}
 use Rattle.promises.proofs.checked_ask.Tie as tie

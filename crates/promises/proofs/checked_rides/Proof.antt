@@ -2,7 +2,7 @@ use mathlib.Core.Path.{ap, _∙_}
 use lib.ListN.{length}
 use Rattle.loops.specs.Zero.{zeros}
 use Rattle.loops.specs.ZeroLaws.{length-zeros}
-use Rattle.promises.specs.Accepted.{rides-accepted, rides-refused, zeros-again}
+use Rattle.promises.specs.AcceptedLaws.{rides-accepted, rides-refused, zeros-again}
 use borrow.Author.Needs.{needs}
 use Rattle.promises.proofs.checked_rides.Statement.{statement}
 use Rattle.promises.proofs.checked_rides.Tie as tie

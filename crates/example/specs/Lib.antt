@@ -1,0 +1,4 @@
+pub mod Day
+pub mod Cases
+pub mod CasesLaws
+pub mod DayLaws
