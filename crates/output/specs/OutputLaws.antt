@@ -8,7 +8,6 @@ use lib.Seq.{length-take-le}
 use Rattle.kinds.specs.Limits.{runsRoom, codesRoom, lastMinute}
 use Rattle.tables.specs.File.{fileRoom, AreBytes}
 use Rattle.reader.specs.declared.Counts.{Counts}
-use Rattle.reader.specs.declared.ReadAnswer.the-variants as read
 use Rattle.reader.specs.Text.{runsOf, codesOf, GoodRead}
 use Rattle.builder.specs.declared.BuildAnswer.{BuildAnswer}
 use Rattle.builder.specs.Build.{buildRoom, BuildOf}
@@ -58,6 +57,11 @@ first-turn : {h : Held} {t list other : List ℕ} {a : ℕ} {xs : List ℕ} → 
     TurnPrints h t other (record { at = a; ride = 0; rides = 0 }) xs
 unfolding rideLines
 first-turn P = record { left = P .left; rides = P .rides; rest = P .rest; lines = P .lines; is = P .is }
+
+-- what the lines from there on print is all
+pub first-lines : {h : Held} {t list : List ℕ} {a : ℕ} {xs : List ℕ} → TurnPrints h t list (record { at = a; ride = 0; rides = 0 }) xs → LinesPrint (LinePrints h t) t a xs
+unfolding rideLines
+first-lines {h} {t} {list} {a} P = subst (LinesPrint (LinePrints h t) t a) (sym (P .is ∙ ap (λ (l : List ℕ). l ++ P .rest) (sym (P .rides)))) (P .lines)
 
 -- what is to be printed after the start, with the rooms that the program has
 abbrev StartPrints : List ℕ → List ℕ → List ℕ → Stage → List ℕ → Type 0
@@ -141,23 +145,30 @@ module _ (t runs codes tables before list out list′ out′ : List ℕ) (first 
 
 -- ---- the output is one
 
-pub lines-one : {h : Held} {t : List ℕ} {a : ℕ} {xs ys : List ℕ} → LinesPrint h t a xs → LinesPrint h t a ys → xs ≡ ys
-lines-one (none p q) (none p′ q′) = q ∙ sym q′
-lines-one (none p q) (unfinished p′ q′) = let y : _≡_ {A = ℕ} 0 1 = let g = sym p ∙ p′ in cc in absurd (omega arith)
-lines-one (none p q) (line e l m p′ f r q′) = let y : _≡_ {A = ℕ} 0 1 = let g = sym p ∙ p′ in cc in absurd (omega arith)
-lines-one (unfinished p q) (none p′ q′) = let y : _≡_ {A = ℕ} 0 1 = let g = sym p ∙ p′ in cc in absurd (omega arith)
-lines-one (unfinished p q) (unfinished p′ q′) = q ∙ sym q′
-lines-one (unfinished p q) (line e l m p′ f r q′) = let y : _≡_ {A = ℕ} 0 1 = let g = sym p ∙ p′ in cc in absurd (omega arith)
-lines-one (line e l m p f r q) (none p′ q′) = let y : _≡_ {A = ℕ} 0 1 = let g = sym p ∙ p′ in cc in absurd (omega arith)
-lines-one (line e l m p f r q) (unfinished p′ q′) = let y : _≡_ {A = ℕ} 0 1 = let g = sym p ∙ p′ in cc in absurd (omega arith)
-lines-one {h} {t} {a} (line e l m p f r q) (line e′ l′ m′ p′ f′ r′ q′) =
+lines-one : {P : ℕ → ℕ → List ℕ → Type 0} {t : List ℕ} {a : ℕ} {xs ys : List ℕ} → ((i e : ℕ) (l m : List ℕ) → P i e l → P i e m → l ≡ m) →
+    LinesPrint P t a xs → LinesPrint P t a ys → xs ≡ ys
+lines-one o (none p q) (none p′ q′) = q ∙ sym q′
+lines-one o (none p q) (unfinished p′ q′) = let y : _≡_ {A = ℕ} 0 1 = let g = sym p ∙ p′ in cc in absurd (omega arith)
+lines-one o (none p q) (line e l m p′ f r q′) = let y : _≡_ {A = ℕ} 0 1 = let g = sym p ∙ p′ in cc in absurd (omega arith)
+lines-one o (unfinished p q) (none p′ q′) = let y : _≡_ {A = ℕ} 0 1 = let g = sym p ∙ p′ in cc in absurd (omega arith)
+lines-one o (unfinished p q) (unfinished p′ q′) = q ∙ sym q′
+lines-one o (unfinished p q) (line e l m p′ f r q′) = let y : _≡_ {A = ℕ} 0 1 = let g = sym p ∙ p′ in cc in absurd (omega arith)
+lines-one o (line e l m p f r q) (none p′ q′) = let y : _≡_ {A = ℕ} 0 1 = let g = sym p ∙ p′ in cc in absurd (omega arith)
+lines-one o (line e l m p f r q) (unfinished p′ q′) = let y : _≡_ {A = ℕ} 0 1 = let g = sym p ∙ p′ in cc in absurd (omega arith)
+lines-one {P} {t} {a} o (line e l m p f r q) (line e′ l′ m′ p′ f′ r′ q′) =
     let g = sym p′ ∙ p in
     let i : e′ ≡ e = cc in
-    q ∙ ap₂ (λ (x y : List ℕ). x ++ y) (printed-one f (subst (λ (j : ℕ). LinePrints h t a j l′) i f′)) (lines-one r (subst (λ (j : ℕ). LinesPrint h t (j + 1) m′) i r′)) ∙ sym q′
+    q ∙ ap₂ (λ (x y : List ℕ). x ++ y) (o a e l l′ f (subst (λ (j : ℕ). P a j l′) i f′)) (lines-one o r (subst (λ (j : ℕ). LinesPrint P t (j + 1) m′) i r′)) ∙ sym q′
+
+-- what holds of each line's print holds of all
+pub lines-map : {P Q : ℕ → ℕ → List ℕ → Type 0} {t : List ℕ} {a : ℕ} {xs : List ℕ} → ((i e : ℕ) (l : List ℕ) → P i e l → Q i e l) → LinesPrint P t a xs → LinesPrint Q t a xs
+lines-map f (none p q) = none p q
+lines-map f (unfinished p q) = unfinished p q
+lines-map f (line e l m p g r q) = line e l m p (f _ e l g) (lines-map f r) q
 
 turn-one : {h : Held} {t list : List ℕ} {p : Turn} {xs ys : List ℕ} → TurnPrints h t list p xs → TurnPrints h t list p ys → xs ≡ ys
 turn-one {h} {t} {list} {p} P Q =
-    P .is ∙ ap₂ (λ (x y : List ℕ). x ++ y) (append-one (rideLines (h .text) (h .codes) (h .runs) list (p .ride)) (sym (P .rides) ∙ Q .rides)) (lines-one (P .lines) (Q .lines)) ∙ sym (Q .is)
+    P .is ∙ ap₂ (λ (x y : List ℕ). x ++ y) (append-one (rideLines (h .text) (h .codes) (h .runs) list (p .ride)) (sym (P .rides) ∙ Q .rides)) (lines-one (λ i e l m. printed-one) (P .lines) (Q .lines)) ∙ sym (Q .is)
 
 pub prints-one : (t runs codes tables list : List ℕ) (s : Stage) (xs ys : List ℕ) → Prints t runs codes tables list s xs → Prints t runs codes tables list s ys → xs ≡ ys
 prints-one t runs codes tables list (Refused r) xs ys P Q = P ∙ sym Q

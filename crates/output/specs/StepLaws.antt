@@ -21,7 +21,7 @@ use Rattle.printed.specs.LineLaws.{at-some, ride-some, no-some, no-place-some}
 use Rattle.printed.specs.WroteLaws.{wrote-first, wrote-one}
 use Rattle.answers.specs.Answers.{LineGets, headOf, ridesIn, runLine, rideLines, printedFor, Ridden}
 use Rattle.answers.specs.AnswersLaws.{gets-one, gets-lent, ridden-all}
-use Rattle.output.specs.Output.{Held, heldOf, LinesPrint, none, unfinished, line, TurnPrints, Prints}
+use Rattle.output.specs.Output.{Held, heldOf, LinePrints, LinesPrint, none, unfinished, line, TurnPrints, Prints}
 use Rattle.output.specs.Steps as step
 use Rattle.output.specs.Steps.{Writes, TurnStep, StepOf, mostHeld, Ready, Stands}
 use Rattle.output.specs.declared.Sizes.{Sizes}
@@ -129,7 +129,7 @@ rides-on s codes runs list (suc j) k =
     (f .0 ++ r, ap (rideLines s codes runs list) e ∙ ap (λ (l : List ℕ). l ++ r) (f .1) ∙ append-assoc (rideLines s codes runs list k) (f .0) r)
 
 -- where the last line has no LF, "no 2" is all that is left
-unfinished-is : {h : Held} {t : List ℕ} {a : ℕ} {xs : List ℕ} → pieceAt t a ≡ piece.Unfinished → LinesPrint h t a xs → xs ≡ noLine lineShape
+unfinished-is : {P : ℕ → ℕ → List ℕ → Type 0} {t : List ℕ} {a : ℕ} {xs : List ℕ} → pieceAt t a ≡ piece.Unfinished → LinesPrint P t a xs → xs ≡ noLine lineShape
 unfinished-is at (none at′ is) = let k : _≡_ {A = ℕ} 0 1 = let j = sym at ∙ at′ in cc in absurd (omega arith)
 unfinished-is at (unfinished at′ is) = is
 unfinished-is at (line i ys zs at′ f rest is) = let k : _≡_ {A = ℕ} 0 1 = let j = sym at ∙ at′ in cc in absurd (omega arith)
@@ -145,7 +145,7 @@ module _ {t runs codes tables list : List ℕ} {z : Sizes} {p : Turn} (R : Ready
   H = heldOf t runs codes tables z
 
   -- the turn's rides are all printed
-  lines-only : p .rides ≤ p .ride → {xs : List ℕ} → LinesPrint H t (p .at) xs → TurnPrints H t list p xs
+  lines-only : p .rides ≤ p .ride → {xs : List ℕ} → LinesPrint (LinePrints H t) t (p .at) xs → TurnPrints H t list p xs
   lines-only le {xs} l =
       let e : p .rides ≡ p .ride = omega (arith, R .due) in
       record {
@@ -211,12 +211,12 @@ module _ {t runs codes tables list : List ℕ} {z : Sizes} {p : Turn} (R : Ready
   turn-over e (step.none le at l o f) = lines-only le (none at refl)
 
   -- The other way round: where the turn's rides are printed, the lines are left;
-  lines-left : p .rides ≤ p .ride → {xs : List ℕ} → TurnPrints H t list p xs → LinesPrint H t (p .at) xs
+  lines-left : p .rides ≤ p .ride → {xs : List ℕ} → TurnPrints H t list p xs → LinesPrint (LinePrints H t) t (p .at) xs
   lines-left le {xs} P =
       let l = rideLines (H .text) codes runs list (p .ride) in
       let e : p .rides ≡ p .ride = omega (arith, R .due) in
       let f : [] ≡ P .left = append-one l (append-nil l ∙ ap (rideLines (H .text) codes runs list) (sym e) ∙ P .rides) in
-      subst (LinesPrint H t (p .at)) (sym (P .is ∙ ap (λ (i : List ℕ). i ++ P .rest) (sym f))) (P .lines)
+      subst (LinesPrint (LinePrints H t) t (p .at)) (sym (P .is ∙ ap (λ (i : List ℕ). i ++ P .rest) (sym f))) (P .lines)
 
   -- the line of a ride comes first,
   ride-first : p .ride < p .rides → {list′ : List ℕ} → list′ ≡ list → {xs : List ℕ} → TurnPrints H t list p xs →
@@ -239,7 +239,7 @@ module _ {t runs codes tables list : List ℕ} {z : Sizes} {p : Turn} (R : Ready
   -- and so does the first line of an answer.
   line-first : {list′ : List ℕ} (i : ℕ) (y : RidesAnswer) → pieceAt t (p .at) ≡ piece.Line i →
       LineGets (H .tables) (H .stops) (H .count) (H .runs) groundRoom (askLine (H .text) (H .codes) (H .stops) t (p .at) i) list list′ y →
-      {xs : List ℕ} → LinesPrint H t (p .at) xs → (ys : List ℕ) × TurnPrints H t list′ (record { at = i + 1; ride = 0; rides = ridesIn y }) ys × (xs ≡ headOf y ++ ys)
+      {xs : List ℕ} → LinesPrint (LinePrints H t) t (p .at) xs → (ys : List ℕ) × TurnPrints H t list′ (record { at = i + 1; ride = 0; rides = ridesIn y }) ys × (xs ≡ headOf y ++ ys)
   unfolding rideLines printedFor
   line-first i y at g (none at′ is) = let k : _≡_ {A = ℕ} 0 1 = let j = sym at ∙ at′ in cc in absurd (omega arith)
   line-first i y at g (unfinished at′ is) = let k : _≡_ {A = ℕ} 0 1 = let j = sym at ∙ at′ in cc in absurd (omega arith)
@@ -252,7 +252,7 @@ module _ {t runs codes tables list : List ℕ} {z : Sizes} {p : Turn} (R : Ready
       (gets-lent (H .tables) (H .stops) (H .count) (H .runs) groundRoom (read i) list (replicate lastMinute 0) list′ y (R .listed ∙ sym (length-replicate {A = ℕ} lastMinute 0)) g) in
       let m = rideLines (H .text) codes runs list′ (ridesIn y) in (
         m ++ zs,
-        record { left = m; rides = refl; rest = zs; lines = subst (λ (k : ℕ). LinesPrint H t (k + 1) zs) e rest; is = refl },
+        record { left = m; rides = refl; rest = zs; lines = subst (λ (k : ℕ). LinesPrint (LinePrints H t) t (k + 1) zs) e rest; is = refl },
         is ∙ ap (λ (l : List ℕ). l ++ zs) (f .is ∙ ap₂ (λ (l : List ℕ) (a : RidesAnswer). headOf a ++ rideLines (H .text) codes runs l (ridesIn a)) (o .1) (o .0)) ∙ append-assoc (headOf y) m zs,
       )
 
