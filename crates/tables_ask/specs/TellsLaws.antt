@@ -29,7 +29,7 @@ module _ {input runs codes tables : List ℕ} {z : Sizes} (A : AcceptedFor input
 
   serves : Serves (z .stops) (z .runs) runs (take (z .tables) tables)
   serves =
-      subst (Serves (z .stops) (z .runs) runs) (sym (ap (λ (n : ℕ). take n tables) (A .all) ∙ take-all tables))
+      subst (Serves (z .stops) (z .runs) runs) (sym (take-all (z .tables) tables (omega (arith, A .all))))
       (rw (A .accepts .stops, A .accepts .runs, are) (accepted-serves tables _ _ _ groundRoom (A .accepts .accepted)))
 
   pub answers-tell : (list xs : List ℕ) → Prints input runs codes tables list (Asks z (firstTurn (z .text))) xs →
