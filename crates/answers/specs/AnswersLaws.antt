@@ -1,7 +1,7 @@
--- Laws of the answers: a line prints one text; and every listed ride can be printed.
-use Prim.Native.Nat.{ℕ, zero, suc, _+_, _*_, _-_, _≤_, _<_}
-use mathlib.Core.Path.{_≡_, sym, ap, ap₂, _∙_}
-use mathlib.Core.List.{List}
+-- Laws of the answers: a line prints one text; what that is by the rides that are listed; and every listed ride can be printed.
+use Prim.Native.Nat.{ℕ, zero, suc, _-_, _≤_, _<_}
+use mathlib.Core.Path.{_≡_, refl, sym, ap, ap₂, _∙_}
+use mathlib.Core.List.{List, _++_, append-nil}
 use mathlib.Core.Bool.{true, false, cond}
 use native.Mathlib.Omega.{arith}
 use lib.ListN.{length, getD, replicate, length-append, List·getD-append}
@@ -11,6 +11,7 @@ use Rattle.loops.specs.Chain.{past, stays}
 use Rattle.loops.specs.Zero.{zeros}
 use Rattle.kinds.specs.Limits.{mostCode, runsRoom}
 use Rattle.kinds.specs.Kinds.{isCodeLength}
+use Rattle.kinds.specs.declared.Refusal.{Refusal}
 use Rattle.journeys.specs.Service.{Service}
 use Rattle.journeys.specs.Journey.{Journey, one, more, rides}
 use Rattle.journeys.specs.RidesLaws.{chosen-journey}
@@ -22,14 +23,15 @@ use Rattle.lookup.specs.Lookup.{startOf, lengthOf}
 use Rattle.reader.specs.Text.{GoodRead}
 use Rattle.asks.specs.declared.AskRead.{AskRead}
 use Rattle.asks.specs.declared.AskRead.the-variants as ask
+use Rattle.rides.specs.declared.Listed.{Listed}
 use Rattle.rides.specs.declared.RidesAnswer.{RidesAnswer}
 use Rattle.rides.specs.declared.RidesAnswer.the-variants.{At, No}
 use Rattle.rides.specs.Lists.{ridesAsked, Lists}
 use Rattle.rides.specs.ListsLaws.{lists-one, lists-lent}
 use Rattle.askline.specs.declared.LineRead.{LineRead}
 use Rattle.askline.specs.declared.LineRead.the-variants as line
-use Rattle.printed.specs.Wrote.{CodeIn}
-use Rattle.answers.specs.Answers.{LineGets, ridesIn, codeAt, printedFor, PrintedAsk, Named, Ridden}
+use Rattle.printed.specs.Printed.{atLine, noLine}
+use Rattle.answers.specs.Answers.{LineGets, ridesIn, runLine, rideLines, printedFor, PrintedAsk, Named, Ridden}
 
 -- ---- a line prints one text
 pub gets-one : (b : List ℕ) (stops count : ℕ) (runs : List ℕ) (lent : ℕ) (read : LineRead) (before m n : List ℕ) (x y : RidesAnswer) →
@@ -50,6 +52,25 @@ unfolding zeros
 gets-lent b stops count runs lent (line.No k) before other after x n f = (f .0, f .1 ∙ ap (λ (m : ℕ). replicate m 0) n)
 gets-lent b stops count runs lent (line.Asked q) before other after x n f =
     lists-lent (serviceOf stops count runs) (tablesOf b) (ridesAsked b stops count runs lent (q .from) (q .to) (q .wanted)) before other after x n f
+
+-- ---- what is printed, by the rides that are listed
+
+-- only the rides that are printed count
+lines-same : (s codes runs l m : List ℕ) (k : ℕ) → ((i : ℕ) → i < k → getD l i 0 ≡ getD m i 0) → rideLines s codes runs l k ≡ rideLines s codes runs m k
+unfolding rideLines
+lines-same s codes runs l m zero f = refl
+lines-same s codes runs l m (suc k) f =
+    ap₂ (λ (x : List ℕ) (i : ℕ). x ++ runLine s codes (runAt runs i)) (lines-same s codes runs l m k (λ i h. f i (omega arith))) (f k (omega arith))
+
+pub printed-listed : (s codes runs l rest : List ℕ) (j : Listed) → j .rides ≡ length l →
+    printedFor s codes runs (l ++ rest) (At j) ≡ atLine (j .dep) (j .arr) (length l) ++ rideLines s codes runs l (length l)
+unfolding printedFor
+printed-listed s codes runs l rest j e =
+    rw e (ap (λ (x : List ℕ). atLine (j .dep) (j .arr) (length l) ++ x) (lines-same s codes runs (l ++ rest) l (length l) (λ i h. List·getD-append l rest 0 i h)))
+
+pub printed-refused : (s codes runs list : List ℕ) (r : Refusal) → printedFor s codes runs list (No r) ≡ noLine (r .number)
+unfolding printedFor rideLines
+printed-refused s codes runs list r = append-nil (noLine (r .number))
 
 -- ---- every listed ride can be printed
 

@@ -1,23 +1,29 @@
 -- What is known of an ask line that was read.
-use Prim.Native.Nat.{ℕ, _+_, _-_, _≤_, _<_}
-use mathlib.Core.Path.{_≡_}
+use Prim.Native.Nat.{ℕ, _+_, _≤_, _<_}
+use mathlib.Core.Path.{_≡_, refl}
 use mathlib.Core.List.{List}
 use mathlib.Core.Bool.{Bool, true, false, cond}
+use mathlib.Core.Logic.{_⊎_, inl, inr}
 use native.Mathlib.Omega.{arith}
 use lib.ListN.{length}
 use lib.Dec.{leb}
 use borrow.Author.Tests.{leb-false}
 use Rattle.loops.specs.Chain.{past}
+use Rattle.kinds.specs.Refusals.{lineShape, stopUnknown}
 use Rattle.words.specs.Words.{space, seek, beginsB}
 use Rattle.words.specs.WordsLaws.{seek-low}
 use Rattle.lines.specs.declared.Field.{Field}
-use Rattle.askline.specs.AskLine.{minutesAt, shaped, shapeAt, earlyWord, lateWord, shortWord, shapeOf}
+use Rattle.asks.specs.declared.Wanted.{Wanted}
+use Rattle.askline.specs.AskLine.{minutesAt, shaped, shapeAt, earlyWord, lateWord, shortWord, shapeOf, namedBy, askOf, askLine}
 use Rattle.askline.specs.declared.Word.{Word}
 use Rattle.askline.specs.declared.Word.the-variants.{Early, Late, Short}
 use Rattle.askline.specs.declared.GivenRead.{GivenRead}
 use Rattle.askline.specs.declared.GivenRead.the-variants as given
 use Rattle.askline.specs.declared.Shape.{Shape}
+use Rattle.askline.specs.declared.ShapeRead.{ShapeRead}
 use Rattle.askline.specs.declared.ShapeRead.the-variants as shape
+use Rattle.askline.specs.declared.LineRead.{LineRead}
+use Rattle.askline.specs.declared.LineRead.the-variants.{Asked, No}
 
 -- FROM and TO stand in the input
 pub record ShapeWithin (t : List ℕ) (f : Shape) : Type 0 where
@@ -65,3 +71,24 @@ shape-within t a e f h high = one (beginsB t a e earlyWord) h
         ShapeWithin t f
     one true g = at-within Early t (a + 6) e f g high
     one false g = two (beginsB t a e lateWord) g
+
+-- what a line is read as: an ask of two stops, or refused by 2 or by 5
+abbrev pub ReadAs : ℕ → LineRead → Type 0
+ReadAs stops (Asked q) = (q .from < stops) × (q .to < stops)
+ReadAs stops (No n) = (n ≡ lineShape) ⊎ (n ≡ stopUnknown)
+
+pub line-read : (s codes : List ℕ) (stops : ℕ) (t : List ℕ) (a e : ℕ) → ReadAs stops (askLine s codes stops t a e)
+unfolding askLine
+line-read s codes stops t a e = from-shape (shapeOf t a e)
+  where
+    from-stops : (from to : ℕ) (w : Wanted) (b c : Bool) → (b ≡ false → from < stops) → (c ≡ false → to < stops) →
+        ReadAs stops (cond b (No stopUnknown) (cond c (No stopUnknown) (Asked (record { from = from; to = to; wanted = w }))))
+    from-stops from to w true c f g = inr refl
+    from-stops from to w false true f g = inr refl
+    from-stops from to w false false f g = (f refl, g refl)
+
+    from-shape : (x : ShapeRead) → ReadAs stops (askOf s codes stops t x)
+    from-shape shape.Bad = inl refl
+    from-shape (shape.Good f) =
+        from-stops (namedBy s codes stops t (f .from)) (namedBy s codes stops t (f .to)) (f .wanted) (leb stops (namedBy s codes stops t (f .from))) (leb stops (namedBy s codes stops t (f .to)))
+        (leb-false stops (namedBy s codes stops t (f .from))) (leb-false stops (namedBy s codes stops t (f .to)))

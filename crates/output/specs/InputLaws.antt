@@ -7,8 +7,9 @@ use native.Mathlib.Omega.{arith}
 use lib.ListN.{length, take}
 use lib.Dec.{ltb}
 use borrow.Author.Tests.{lt-ltb, le-ltb, ltb-false}
-use Rattle.kinds.specs.Limits.{mostInput}
+use Rattle.kinds.specs.Limits.{mostInput, runsRoom}
 use Rattle.kinds.specs.Refusals.{overLimit}
+use Rattle.timetable.specs.Numbers.{GoodNumbers}
 use Rattle.reader.specs.declared.Counts.{Counts}
 use Rattle.reader.specs.declared.ReadAnswer.{ReadAnswer}
 use Rattle.reader.specs.declared.ReadAnswer.the-variants.{Read, No}
@@ -47,6 +48,18 @@ module _ (t : List ℕ) (runs codes : ℕ) where
       let i = input-held (read-held k e) in
       subst (λ (o : Outcome). GoodRead (take (timetableEnd t) t) runs codes (k .stops) (k .runs) (runsOf o runs) (codesOf o codes)) (sym i)
       (read-good (take (timetableEnd t) t) runs codes k (sym e ∙ ap answerOf i) .0)
+
+  -- they are those of a timetable
+  pub input-numbers : runsRoom ≤ runs → (k : Counts) → answerOf (readInput t runs codes) ≡ Read k → GoodNumbers (k .stops) (k .runs) (runsOf (readInput t runs codes) runs)
+  input-numbers room k e =
+      let g = input-good k e in
+      record {
+        some = read-good (take (timetableEnd t) t) runs codes k (sym e ∙ ap answerOf (input-held (read-held k e))) .1;
+        few = g .few;
+        few-runs = g .few-runs;
+        long = omega (arith, g .few-runs, g .numbers-long);
+        runs = g .good;
+      }
 
 -- the start, from what the reader and the builder answered
 module _ (t : List ℕ) (runs codes : ℕ) {x : ReadAnswer} (e : x ≡ answerOf (readInput t runs codes)) where

@@ -58,18 +58,19 @@ abbrev pub LinePrints : Held → List ℕ → ℕ → ℕ → List ℕ → Type 
 LinePrints h t a e xs =
     PrintedAsk (h .text) (h .codes) (h .tables) (h .stops) (h .count) (h .runs) groundRoom (askLine (h .text) (h .codes) (h .stops) t a e) (replicate lastMinute 0) xs
 
--- What the lines of t from a on print: each what it prints, one after the other; "An ill-shaped ask, or one without LF, is "no 2"".
-pub data LinesPrint (h : Held) (t : List ℕ) : ℕ → List ℕ → Type 0 where
-  none : {a : ℕ} {xs : List ℕ} → pieceAt t a ≡ piece.Done → xs ≡ [] → LinesPrint h t a xs
-  unfinished : {a : ℕ} {xs : List ℕ} → pieceAt t a ≡ piece.Unfinished → xs ≡ noLine lineShape → LinesPrint h t a xs
-  line : {a : ℕ} {xs : List ℕ} (e : ℕ) (ys zs : List ℕ) → pieceAt t a ≡ piece.Line e → LinePrints h t a e ys → LinesPrint h t (e + 1) zs → xs ≡ ys ++ zs → LinesPrint h t a xs
+-- What the lines of t from a on print, where P says what the line from one place up to another prints: each what it prints, one after the other; "An
+-- ill-shaped ask, or one without LF, is "no 2"".
+pub data LinesPrint (P : ℕ → ℕ → List ℕ → Type 0) (t : List ℕ) : ℕ → List ℕ → Type 0 where
+  none : {a : ℕ} {xs : List ℕ} → pieceAt t a ≡ piece.Done → xs ≡ [] → LinesPrint P t a xs
+  unfinished : {a : ℕ} {xs : List ℕ} → pieceAt t a ≡ piece.Unfinished → xs ≡ noLine lineShape → LinesPrint P t a xs
+  line : {a : ℕ} {xs : List ℕ} (e : ℕ) (ys zs : List ℕ) → pieceAt t a ≡ piece.Line e → P a e ys → LinesPrint P t (e + 1) zs → xs ≡ ys ++ zs → LinesPrint P t a xs
 
 -- What is still to be printed when it is this turn: the lines of the listed rides after those that were printed, and then the lines from `at` on.
 pub record TurnPrints (h : Held) (t list : List ℕ) (p : Turn) (xs : List ℕ) : Type 0 where
   pub left : List ℕ
   pub rides : rideLines (h .text) (h .codes) (h .runs) list (p .rides) ≡ rideLines (h .text) (h .codes) (h .runs) list (p .ride) ++ left
   pub rest : List ℕ
-  pub lines : LinesPrint h t (p .at) rest
+  pub lines : LinesPrint (LinePrints h t) t (p .at) rest
   pub is : xs ≡ left ++ rest
 
 -- "A refused timetable prints "no", number and place, and nothing more. A refused build prints the same way."

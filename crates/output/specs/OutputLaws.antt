@@ -1,14 +1,13 @@
 -- Laws of the output: the program's start leads to it, its steps print it line by line, and it is one.
 use Prim.Native.Nat.{ℕ, _+_, _*_, _≤_, _<_}
 use mathlib.Core.Path.{_≡_, refl, sym, ap, ap₂, subst, subst₂, _∙_}
-use mathlib.Core.List.{List, [], _∷_, _++_, append-assoc}
+use mathlib.Core.List.{List, [], _++_, append-assoc}
 use native.Mathlib.Omega.{arith}
 use lib.ListN.{length, take, replicate, length-append}
 use lib.Seq.{length-take-le}
 use Rattle.kinds.specs.Limits.{runsRoom, codesRoom, lastMinute}
 use Rattle.tables.specs.File.{fileRoom, AreBytes}
 use Rattle.reader.specs.declared.Counts.{Counts}
-use Rattle.reader.specs.declared.ReadAnswer.the-variants as read
 use Rattle.reader.specs.Text.{runsOf, codesOf, GoodRead}
 use Rattle.builder.specs.declared.BuildAnswer.{BuildAnswer}
 use Rattle.builder.specs.Build.{buildRoom, BuildOf}
@@ -21,7 +20,7 @@ use Rattle.answers.specs.AnswersLaws.{printed-one}
 use Rattle.output.specs.Output.{readInput, StartOf, unread, unbuilt, built, Held, LinePrints, LinesPrint, none, unfinished, line, TurnPrints, Prints, OutputOf}
 use Rattle.output.specs.InputLaws.{read-held, input-good}
 use Rattle.output.specs.Steps.{StepOf, Stands}
-use Rattle.output.specs.StepLaws.{left, mostLines, left-most, few-bytes, step-stands, step-less, step-prints, step-over}
+use Rattle.output.specs.StepLaws.{left, mostLines, left-most, few-bytes, some-bytes, step-stands, step-less, append-one, step-prints, step-first, step-over}
 use Rattle.output.specs.declared.Turn.{Turn}
 use Rattle.output.specs.declared.Stage.{Stage}
 use Rattle.output.specs.declared.Stage.the-variants.{Refused, Asks, Over}
@@ -59,17 +58,26 @@ first-turn : {h : Held} {t list other : List ℕ} {a : ℕ} {xs : List ℕ} → 
 unfolding rideLines
 first-turn P = record { left = P .left; rides = P .rides; rest = P .rest; lines = P .lines; is = P .is }
 
--- what is to be printed after the start is the output
+-- what the lines from there on print is all
+pub first-lines : {h : Held} {t list : List ℕ} {a : ℕ} {xs : List ℕ} → TurnPrints h t list (record { at = a; ride = 0; rides = 0 }) xs → LinesPrint (LinePrints h t) t a xs
+unfolding rideLines
+first-lines {h} {t} {list} {a} P = subst (LinesPrint (LinePrints h t) t a) (sym (P .is ∙ ap (λ (l : List ℕ). l ++ P .rest) (sym (P .rides)))) (P .lines)
+
+-- what is to be printed after the start, with the rooms that the program has
+abbrev StartPrints : List ℕ → List ℕ → List ℕ → Stage → List ℕ → Type 0
+StartPrints t tables list s xs =
+    Prints t (runsOf (readInput t runsRoom codesRoom) runsRoom) (codesOf (readInput t runsRoom codesRoom) codesRoom) tables list s xs
+
+-- is the same whatever the list holds
+start-list : {t tables : List ℕ} {s : Stage} (list other xs : List ℕ) → StartOf t runsRoom codesRoom buildRoom fileRoom tables s → StartPrints t tables list s xs → StartPrints t tables other s xs
+start-list list other xs (unread r e f z) P = rw f (rw f at P)
+start-list list other xs (unbuilt k r e b f) P = rw f (rw f at P)
+start-list list other xs (built k n labels e b f) P = rw f (first-turn (rw f at P))
+
+-- and it is the output
 module _ (t tables list : List ℕ) (s : Stage) (S : StartOf t runsRoom codesRoom buildRoom fileRoom tables s) (bytes : AreBytes tables) (xs : List ℕ) where
-  pub start-output : Prints t (runsOf (readInput t runsRoom codesRoom) runsRoom) (codesOf (readInput t runsRoom codesRoom) codesRoom) tables list s xs → OutputOf t xs
-  start-output P = record { tables = tables; bytes = bytes; stage = s; starts = S; prints = go S P }
-    where
-      go : StartOf t runsRoom codesRoom buildRoom fileRoom tables s →
-          Prints t (runsOf (readInput t runsRoom codesRoom) runsRoom) (codesOf (readInput t runsRoom codesRoom) codesRoom) tables list s xs →
-          Prints t (runsOf (readInput t runsRoom codesRoom) runsRoom) (codesOf (readInput t runsRoom codesRoom) codesRoom) tables (replicate lastMinute 0) s xs
-      go (unread r e f z) Q = rw f (rw f at Q)
-      go (unbuilt k r e b f) Q = rw f (rw f at Q)
-      go (built k n labels e b f) Q = rw f (first-turn (rw f at Q))
+  pub start-output : StartPrints t tables list s xs → OutputOf t xs
+  start-output P = record { tables = tables; bytes = bytes; stage = s; starts = S; prints = start-list list (replicate lastMinute 0) xs S P }
 
 -- ---- the steps, one after the other
 
@@ -79,12 +87,13 @@ pub record Along (t runs codes tables before : List ℕ) (first : Stage) (list :
   pub done : List ℕ
   pub count : total ≡ length done
   pub rest : (ys : List ℕ) → Prints t runs codes tables list s ys → Prints t runs codes tables before first (done ++ ys)
+  pub first-done : (xs : List ℕ) → Prints t runs codes tables before first xs → (ys : List ℕ) × Prints t runs codes tables list s ys × (xs ≡ done ++ ys)
   -- what is left cannot make the number of bytes too large
   pub bound : total + lineRoom * left (length t) s ≤ lineRoom * mostLines
 
-pub along-none : (t runs codes tables list : List ℕ) (s : Stage) → Stands t runs codes tables list s → Along t runs codes tables list s list s 0
-along-none t runs codes tables list s R =
-    record { stands = R; done = []; count = refl; rest = λ ys P. P; bound = omega (arith, left-most t runs codes tables list s R) }
+pub along-none : (t runs codes tables list : List ℕ) (s : Stage) → Stands t runs codes tables list s → {total : ℕ} → total ≡ 0 → Along t runs codes tables list s list s total
+along-none t runs codes tables list s R e =
+    record { stands = R; done = []; count = e; rest = λ ys P. P; first-done = λ xs P. (xs, P, refl); bound = omega (arith, left-most t runs codes tables list s R) }
 
 module _ (t runs codes tables before list out list′ out′ : List ℕ) (first s : Stage) {total : ℕ} (D : Along t runs codes tables before first list s total) {x : Step}
     (S : StepOf t runs codes tables s list out list′ out′ x) where
@@ -101,17 +110,33 @@ module _ (t runs codes tables before list out list′ out′ : List ℕ) (first 
     along-total same =
         omega (arith, D .bound, along-bytes, along-less same)
 
-    pub along-more : length list′ ≡ length list → lineRoom ≤ length out → length out′ ≡ length out → Along t runs codes tables before first list′ s′ (total + n)
-    along-more same room as-long =
+    pub along-more : length list′ ≡ length list → lineRoom ≤ length out → length out′ ≡ length out → {more : ℕ} → total + n ≡ more → Along t runs codes tables before first list′ s′ more
+    along-more same room as-long is =
         let few = along-bytes in
         record {
           stands = step-stands t runs codes tables list out list′ out′ s (D .stands) S same n s′ e;
           done = D .done ++ take n out′;
-          count = rw length-append (ap₂ (λ (i j : ℕ). i + j) (D .count) (sym (length-take-le n out′ (omega arith))));
+          count = rw length-append (omega (arith, D .count, length-take-le n out′ (omega arith)));
           rest = λ ys P. subst (Prints t runs codes tables before first) (sym (append-assoc (D .done) (take n out′) ys))
               (D .rest (take n out′ ++ ys) (step-prints t runs codes tables list out list′ out′ s (D .stands) S room n s′ e ys P));
-          bound = along-total same;
+          first-done = λ xs P.
+              let f = D .first-done xs P in
+              let g = step-first t runs codes tables list out list′ out′ s (D .stands) S room n s′ e (f .0) (f .1) in
+              (g .0, g .1, f .2 ∙ ap (λ (l : List ℕ). D .done ++ l) (g .2) ∙ sym (append-assoc (D .done) (take n out′) (g .0)));
+          bound = omega (arith, along-total same);
         }
+
+    -- so many bytes and this line, at least, are to be printed; and a line has bytes
+    pub along-due : lineRoom ≤ length out → length out′ ≡ length out → (0 < n) × ((xs : List ℕ) → Prints t runs codes tables before first xs → total + n ≤ length xs)
+    along-due room as-long =
+        let few = along-bytes in (
+          some-bytes t runs codes tables s list out list′ out′ S n s′ e,
+          λ xs P.
+              let f = D .first-done xs P in
+              let g = step-first t runs codes tables list out list′ out′ s (D .stands) S room n s′ e (f .0) (f .1) in
+              let l : List ℕ = take n out′ in
+              omega (arith, D .count, ap length (f .2), length-append (D .done) (f .0), ap length (g .2), length-append l (g .0), length-take-le n out′ (omega arith)),
+        )
 
   -- all that is to be printed was written
   pub along-all : x ≡ Nothing → (xs : List ℕ) × Prints t runs codes tables before first xs × (total ≡ length xs)
@@ -120,27 +145,30 @@ module _ (t runs codes tables before list out list′ out′ : List ℕ) (first 
 
 -- ---- the output is one
 
-append-one : (l : List ℕ) {xs ys : List ℕ} → l ++ xs ≡ l ++ ys → xs ≡ ys
-append-one [] e = e
-append-one (x ∷ l) e = append-one l cc
-
-pub lines-one : {h : Held} {t : List ℕ} {a : ℕ} {xs ys : List ℕ} → LinesPrint h t a xs → LinesPrint h t a ys → xs ≡ ys
-lines-one (none p q) (none p′ q′) = q ∙ sym q′
-lines-one (none p q) (unfinished p′ q′) = let y : _≡_ {A = ℕ} 0 1 = let g = sym p ∙ p′ in cc in absurd (omega arith)
-lines-one (none p q) (line e l m p′ f r q′) = let y : _≡_ {A = ℕ} 0 1 = let g = sym p ∙ p′ in cc in absurd (omega arith)
-lines-one (unfinished p q) (none p′ q′) = let y : _≡_ {A = ℕ} 0 1 = let g = sym p ∙ p′ in cc in absurd (omega arith)
-lines-one (unfinished p q) (unfinished p′ q′) = q ∙ sym q′
-lines-one (unfinished p q) (line e l m p′ f r q′) = let y : _≡_ {A = ℕ} 0 1 = let g = sym p ∙ p′ in cc in absurd (omega arith)
-lines-one (line e l m p f r q) (none p′ q′) = let y : _≡_ {A = ℕ} 0 1 = let g = sym p ∙ p′ in cc in absurd (omega arith)
-lines-one (line e l m p f r q) (unfinished p′ q′) = let y : _≡_ {A = ℕ} 0 1 = let g = sym p ∙ p′ in cc in absurd (omega arith)
-lines-one {h} {t} {a} (line e l m p f r q) (line e′ l′ m′ p′ f′ r′ q′) =
+lines-one : {P : ℕ → ℕ → List ℕ → Type 0} {t : List ℕ} {a : ℕ} {xs ys : List ℕ} → ((i e : ℕ) (l m : List ℕ) → P i e l → P i e m → l ≡ m) →
+    LinesPrint P t a xs → LinesPrint P t a ys → xs ≡ ys
+lines-one o (none p q) (none p′ q′) = q ∙ sym q′
+lines-one o (none p q) (unfinished p′ q′) = let y : _≡_ {A = ℕ} 0 1 = let g = sym p ∙ p′ in cc in absurd (omega arith)
+lines-one o (none p q) (line e l m p′ f r q′) = let y : _≡_ {A = ℕ} 0 1 = let g = sym p ∙ p′ in cc in absurd (omega arith)
+lines-one o (unfinished p q) (none p′ q′) = let y : _≡_ {A = ℕ} 0 1 = let g = sym p ∙ p′ in cc in absurd (omega arith)
+lines-one o (unfinished p q) (unfinished p′ q′) = q ∙ sym q′
+lines-one o (unfinished p q) (line e l m p′ f r q′) = let y : _≡_ {A = ℕ} 0 1 = let g = sym p ∙ p′ in cc in absurd (omega arith)
+lines-one o (line e l m p f r q) (none p′ q′) = let y : _≡_ {A = ℕ} 0 1 = let g = sym p ∙ p′ in cc in absurd (omega arith)
+lines-one o (line e l m p f r q) (unfinished p′ q′) = let y : _≡_ {A = ℕ} 0 1 = let g = sym p ∙ p′ in cc in absurd (omega arith)
+lines-one {P} {t} {a} o (line e l m p f r q) (line e′ l′ m′ p′ f′ r′ q′) =
     let g = sym p′ ∙ p in
     let i : e′ ≡ e = cc in
-    q ∙ ap₂ (λ (x y : List ℕ). x ++ y) (printed-one f (subst (λ (j : ℕ). LinePrints h t a j l′) i f′)) (lines-one r (subst (λ (j : ℕ). LinesPrint h t (j + 1) m′) i r′)) ∙ sym q′
+    q ∙ ap₂ (λ (x y : List ℕ). x ++ y) (o a e l l′ f (subst (λ (j : ℕ). P a j l′) i f′)) (lines-one o r (subst (λ (j : ℕ). LinesPrint P t (j + 1) m′) i r′)) ∙ sym q′
+
+-- what holds of each line's print holds of all
+pub lines-map : {P Q : ℕ → ℕ → List ℕ → Type 0} {t : List ℕ} {a : ℕ} {xs : List ℕ} → ((i e : ℕ) (l : List ℕ) → P i e l → Q i e l) → LinesPrint P t a xs → LinesPrint Q t a xs
+lines-map f (none p q) = none p q
+lines-map f (unfinished p q) = unfinished p q
+lines-map f (line e l m p g r q) = line e l m p (f _ e l g) (lines-map f r) q
 
 turn-one : {h : Held} {t list : List ℕ} {p : Turn} {xs ys : List ℕ} → TurnPrints h t list p xs → TurnPrints h t list p ys → xs ≡ ys
 turn-one {h} {t} {list} {p} P Q =
-    P .is ∙ ap₂ (λ (x y : List ℕ). x ++ y) (append-one (rideLines (h .text) (h .codes) (h .runs) list (p .ride)) (sym (P .rides) ∙ Q .rides)) (lines-one (P .lines) (Q .lines)) ∙ sym (Q .is)
+    P .is ∙ ap₂ (λ (x y : List ℕ). x ++ y) (append-one (rideLines (h .text) (h .codes) (h .runs) list (p .ride)) (sym (P .rides) ∙ Q .rides)) (lines-one (λ i e l m. printed-one) (P .lines) (Q .lines)) ∙ sym (Q .is)
 
 pub prints-one : (t runs codes tables list : List ℕ) (s : Stage) (xs ys : List ℕ) → Prints t runs codes tables list s xs → Prints t runs codes tables list s ys → xs ≡ ys
 prints-one t runs codes tables list (Refused r) xs ys P Q = P ∙ sym Q
@@ -184,10 +212,15 @@ module _ {t : List ℕ} {roomR roomC work lent : ℕ} {tables other : List ℕ} 
       let j : n ≡ n′ = cc in
       (f ∙ ap₂ (λ (c : Counts) (m : ℕ). Asks (record { stops = c .stops; runs = c .runs; text = timetableEnd t; tables = m }) (record { at = timetableEnd t; ride = 0; rides = 0 })) (sym i) j ∙ sym f′, o .1)
 
+-- the output is what is to be printed after the start
+module _ (t tables list : List ℕ) (s : Stage) (S : StartOf t runsRoom codesRoom buildRoom fileRoom tables s) (bytes : AreBytes tables) (xs : List ℕ) where
+  pub output-start : OutputOf t xs → StartPrints t tables list s xs
+  output-start O =
+      let e = start-one (O .bytes) bytes (O .starts) S in
+      start-list (replicate lastMinute 0) list xs S (subst₂ (λ (b : List ℕ) (r : Stage). StartPrints t b (replicate lastMinute 0) r xs) (e .1) (e .0) (O .prints))
+
 -- no second output is one
 pub output-one : {t xs ys : List ℕ} → OutputOf t xs → OutputOf t ys → xs ≡ ys
 output-one {t} {xs} {ys} O P =
-    let e = start-one (O .bytes) (P .bytes) (O .starts) (P .starts) in
     prints-one t (runsOf (readInput t runsRoom codesRoom) runsRoom) (codesOf (readInput t runsRoom codesRoom) codesRoom) (O .tables) (replicate lastMinute 0) (O .stage) xs ys (O .prints)
-    (subst₂ (λ (b : List ℕ) (s : Stage). Prints t (runsOf (readInput t runsRoom codesRoom) runsRoom) (codesOf (readInput t runsRoom codesRoom) codesRoom) b (replicate lastMinute 0) s ys)
-    (sym (e .1)) (sym (e .0)) (P .prints))
+    (output-start t (O .tables) (replicate lastMinute 0) (O .stage) (O .starts) (O .bytes) ys P)

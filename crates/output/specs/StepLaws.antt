@@ -1,22 +1,27 @@
 -- Laws of a step: where the next one may be made, what is left after it, and that line by line the steps print what is said in Output.antt.
 use Prim.Native.Nat.{ℕ, zero, suc, _+_, _*_, _-_, _≤_, _<_}
-use mathlib.Core.Path.{_≡_, refl, sym, ap, subst, subst₂, _∙_}
-use mathlib.Core.List.{List, [], _++_, append-assoc, append-nil}
+use mathlib.Core.Path.{_≡_, refl, sym, ap, ap₂, subst, subst₂, _∙_}
+use mathlib.Core.List.{List, [], _∷_, _++_, append-assoc, append-nil}
 use native.Mathlib.Omega.{arith}
+use native.Mathlib.Nat.{zero-add}
 use lib.ListN.{length, take, getD, replicate, length-replicate}
 use Rattle.kinds.specs.Limits.{lastMinute}
+use Rattle.kinds.specs.Refusals.{lineShape}
 use Rattle.timetable.specs.Numbers.{runAt}
 use Rattle.rides.specs.declared.RidesAnswer.{RidesAnswer}
+use Rattle.rides.specs.declared.RidesAnswer.the-variants as rides
 use Rattle.ground.specs.Ground.{groundRoom}
+use Rattle.askline.specs.declared.LineRead.{LineRead}
 use Rattle.askline.specs.declared.Piece.the-variants as piece
 use Rattle.askline.specs.AskLine.{askLine}
 use Rattle.askline.specs.Input.{pieceAt}
 use Rattle.askline.specs.InputLaws.{line-within}
-use Rattle.printed.specs.Printed.{lineRoom}
+use Rattle.printed.specs.Printed.{noLine, lineRoom}
+use Rattle.printed.specs.LineLaws.{at-some, ride-some, no-some, no-place-some}
 use Rattle.printed.specs.WroteLaws.{wrote-first, wrote-one}
 use Rattle.answers.specs.Answers.{LineGets, headOf, ridesIn, runLine, rideLines, printedFor, Ridden}
 use Rattle.answers.specs.AnswersLaws.{gets-one, gets-lent, ridden-all}
-use Rattle.output.specs.Output.{Held, heldOf, LinesPrint, none, unfinished, line, TurnPrints, Prints}
+use Rattle.output.specs.Output.{Held, heldOf, LinePrints, LinesPrint, none, unfinished, line, TurnPrints, Prints}
 use Rattle.output.specs.Steps as step
 use Rattle.output.specs.Steps.{Writes, TurnStep, StepOf, mostHeld, Ready, Stands}
 use Rattle.output.specs.declared.Sizes.{Sizes}
@@ -109,6 +114,26 @@ module _ (t runs codes tables list : List ℕ) where
 
 -- ---- line by line, the steps print what is said
 
+pub append-one : (l : List ℕ) {xs ys : List ℕ} → l ++ xs ≡ l ++ ys → xs ≡ ys
+append-one [] e = e
+append-one (x ∷ l) e = append-one l cc
+
+-- the lines of more rides begin with those of the first k
+rides-on : (s codes runs list : List ℕ) (j k : ℕ) → (m : List ℕ) × (rideLines s codes runs list (j + k) ≡ rideLines s codes runs list k ++ m)
+unfolding rideLines
+rides-on s codes runs list zero k = ([], ap (rideLines s codes runs list) (zero-add k) ∙ sym (append-nil (rideLines s codes runs list k)))
+rides-on s codes runs list (suc j) k =
+    let f = rides-on s codes runs list j k in
+    let r = runLine s codes (runAt runs (getD list (j + k) 0)) in
+    let e : suc j + k ≡ suc (j + k) = omega arith in
+    (f .0 ++ r, ap (rideLines s codes runs list) e ∙ ap (λ (l : List ℕ). l ++ r) (f .1) ∙ append-assoc (rideLines s codes runs list k) (f .0) r)
+
+-- where the last line has no LF, "no 2" is all that is left
+unfinished-is : {P : ℕ → ℕ → List ℕ → Type 0} {t : List ℕ} {a : ℕ} {xs : List ℕ} → pieceAt t a ≡ piece.Unfinished → LinesPrint P t a xs → xs ≡ noLine lineShape
+unfinished-is at (none at′ is) = let k : _≡_ {A = ℕ} 0 1 = let j = sym at ∙ at′ in cc in absurd (omega arith)
+unfinished-is at (unfinished at′ is) = is
+unfinished-is at (line i ys zs at′ f rest is) = let k : _≡_ {A = ℕ} 0 1 = let j = sym at ∙ at′ in cc in absurd (omega arith)
+
 -- the buffer's first bytes are the line
 pub first-bytes : {out xs out′ : List ℕ} {s : Stage} {x : Step} → Writes out xs s out′ x → lineRoom ≤ length out → (n : ℕ) (s′ : Stage) → x ≡ Printed n s′ → take n out′ ≡ xs
 first-bytes {xs = xs} {out′ = out′} w h n s′ e =
@@ -120,7 +145,7 @@ module _ {t runs codes tables list : List ℕ} {z : Sizes} {p : Turn} (R : Ready
   H = heldOf t runs codes tables z
 
   -- the turn's rides are all printed
-  lines-only : p .rides ≤ p .ride → {xs : List ℕ} → LinesPrint H t (p .at) xs → TurnPrints H t list p xs
+  lines-only : p .rides ≤ p .ride → {xs : List ℕ} → LinesPrint (LinePrints H t) t (p .at) xs → TurnPrints H t list p xs
   lines-only le {xs} l =
       let e : p .rides ≡ p .ride = omega (arith, R .due) in
       record {
@@ -185,6 +210,67 @@ module _ {t runs codes tables list : List ℕ} {z : Sizes} {p : Turn} (R : Ready
   turn-over e (step.unfinished le at l w) = let y : _≡_ {A = ℕ} 0 1 = let g = sym e ∙ w .is in cc in absurd (omega arith)
   turn-over e (step.none le at l o f) = lines-only le (none at refl)
 
+  -- The other way round: where the turn's rides are printed, the lines are left;
+  lines-left : p .rides ≤ p .ride → {xs : List ℕ} → TurnPrints H t list p xs → LinesPrint (LinePrints H t) t (p .at) xs
+  lines-left le {xs} P =
+      let l = rideLines (H .text) codes runs list (p .ride) in
+      let e : p .rides ≡ p .ride = omega (arith, R .due) in
+      let f : [] ≡ P .left = append-one l (append-nil l ∙ ap (rideLines (H .text) codes runs list) (sym e) ∙ P .rides) in
+      subst (LinesPrint (LinePrints H t) t (p .at)) (sym (P .is ∙ ap (λ (i : List ℕ). i ++ P .rest) (sym f))) (P .lines)
+
+  -- the line of a ride comes first,
+  ride-first : p .ride < p .rides → {list′ : List ℕ} → list′ ≡ list → {xs : List ℕ} → TurnPrints H t list p xs →
+      (ys : List ℕ) × TurnPrints H t list′ (record { at = p .at; ride = p .ride + 1; rides = p .rides }) ys × (xs ≡ runLine (H .text) codes (runAt runs (getD list (p .ride) 0)) ++ ys)
+  unfolding rideLines
+  ride-first lt l {xs} P =
+      let m = rides-on (H .text) codes runs list (p .rides - suc (p .ride)) (suc (p .ride)) in
+      let e : p .rides - suc (p .ride) + suc (p .ride) ≡ p .rides = omega arith in
+      let f : suc (p .ride) ≡ p .ride + 1 = omega arith in
+      let r = runLine (H .text) codes (runAt runs (getD list (p .ride) 0)) in
+      let a = rideLines (H .text) codes runs list in
+      let g : a (p .rides) ≡ a (suc (p .ride)) ++ m .0 = ap a (sym e) ∙ m .1 in
+      let left : P .left ≡ r ++ m .0 = append-one (a (p .ride)) (sym (P .rides) ∙ g ∙ append-assoc (a (p .ride)) r (m .0)) in (
+        m .0 ++ P .rest,
+        subst (λ (i : List ℕ). TurnPrints H t i (record { at = p .at; ride = p .ride + 1; rides = p .rides }) (m .0 ++ P .rest)) (sym l)
+            (record { left = m .0; rides = g ∙ ap (λ (k : ℕ). a k ++ m .0) f; rest = P .rest; lines = P .lines; is = refl }),
+        P .is ∙ ap (λ (i : List ℕ). i ++ P .rest) left ∙ append-assoc r (m .0) (P .rest),
+      )
+
+  -- and so does the first line of an answer.
+  line-first : {list′ : List ℕ} (i : ℕ) (y : RidesAnswer) → pieceAt t (p .at) ≡ piece.Line i →
+      LineGets (H .tables) (H .stops) (H .count) (H .runs) groundRoom (askLine (H .text) (H .codes) (H .stops) t (p .at) i) list list′ y →
+      {xs : List ℕ} → LinesPrint (LinePrints H t) t (p .at) xs → (ys : List ℕ) × TurnPrints H t list′ (record { at = i + 1; ride = 0; rides = ridesIn y }) ys × (xs ≡ headOf y ++ ys)
+  unfolding rideLines printedFor
+  line-first i y at g (none at′ is) = let k : _≡_ {A = ℕ} 0 1 = let j = sym at ∙ at′ in cc in absurd (omega arith)
+  line-first i y at g (unfinished at′ is) = let k : _≡_ {A = ℕ} 0 1 = let j = sym at ∙ at′ in cc in absurd (omega arith)
+  line-first {list′} i y at g (line i′ ys zs at′ f rest is) =
+      let j = sym at′ ∙ at in
+      let e : i′ ≡ i = cc in
+      let read : ℕ → LineRead = askLine (H .text) (H .codes) (H .stops) t (p .at) in
+      let o = gets-one (H .tables) (H .stops) (H .count) (H .runs) groundRoom (read i) (replicate lastMinute 0) (f .list) list′ (f .answer) y
+      (subst (λ (k : ℕ). LineGets (H .tables) (H .stops) (H .count) (H .runs) groundRoom (read k) (replicate lastMinute 0) (f .list) (f .answer)) e (f .gets))
+      (gets-lent (H .tables) (H .stops) (H .count) (H .runs) groundRoom (read i) list (replicate lastMinute 0) list′ y (R .listed ∙ sym (length-replicate {A = ℕ} lastMinute 0)) g) in
+      let m = rideLines (H .text) codes runs list′ (ridesIn y) in (
+        m ++ zs,
+        record { left = m; rides = refl; rest = zs; lines = subst (λ (k : ℕ). LinesPrint (LinePrints H t) t (k + 1) zs) e rest; is = refl },
+        is ∙ ap (λ (l : List ℕ). l ++ zs) (f .is ∙ ap₂ (λ (l : List ℕ) (a : RidesAnswer). headOf a ++ rideLines (H .text) codes runs l (ridesIn a)) (o .1) (o .0)) ∙ append-assoc (headOf y) m zs,
+      )
+
+  module _ {out list′ out′ : List ℕ} {x : Step} (room : lineRoom ≤ length out) {n : ℕ} {s : Stage} (e : x ≡ Printed n s) where
+    turn-first : TurnStep H t z p list out list′ out′ x → (xs : List ℕ) → TurnPrints H t list p xs → (ys : List ℕ) × Prints t runs codes tables list′ s ys × (xs ≡ take n out′ ++ ys)
+    turn-first (step.ride lt l w) xs P =
+        let f = ride-first lt l P in
+        (f .0, subst (λ i. Prints t runs codes tables list′ i (f .0)) (same-bytes (sym (w .is) ∙ e) .1) (f .1), rw (first-bytes w room n s e) (f .2))
+    turn-first (step.line i y le at g w) xs P =
+        let f = line-first i y at g (lines-left le P) in
+        (f .0, subst (λ i. Prints t runs codes tables list′ i (f .0)) (same-bytes (sym (w .is) ∙ e) .1) (f .1), rw (first-bytes w room n s e) (f .2))
+    turn-first (step.unfinished le at l w) xs P = (
+      [],
+      subst (λ i. Prints t runs codes tables list′ i []) (same-bytes (sym (w .is) ∙ e) .1) refl,
+      unfinished-is at (lines-left le P) ∙ sym (first-bytes w room n s e) ∙ sym (append-nil (take n out′)),
+    )
+    turn-first (step.none le at l o f) xs P = let y : _≡_ {A = ℕ} 0 1 = let g = sym e ∙ f in cc in absurd (omega arith)
+
 module _ (t runs codes tables list out list′ out′ : List ℕ) {x : Step} where
   -- what is to be printed at a stage is the line that the step wrote, and then what is to be printed after it
   pub step-prints : (s : Stage) → Stands t runs codes tables list s → StepOf t runs codes tables s list out list′ out′ x → lineRoom ≤ length out →
@@ -194,6 +280,17 @@ module _ (t runs codes tables list out list′ out′ : List ℕ) {x : Step} whe
       ap (λ (l : List ℕ). take n out′ ++ l) Q ∙ append-nil (take n out′) ∙ first-bytes (S .0) room n s′ e
   step-prints (Asks z p) R S room n s′ e ys P = turn-prints R room e S ys P
   step-prints Over R S room n s′ e ys P = let y : _≡_ {A = ℕ} 0 1 = let g = sym e ∙ S .0 in cc in absurd (omega arith)
+
+  -- and nothing else is
+  pub step-first : (s : Stage) → Stands t runs codes tables list s → StepOf t runs codes tables s list out list′ out′ x → lineRoom ≤ length out →
+      (n : ℕ) (s′ : Stage) → x ≡ Printed n s′ → (xs : List ℕ) → Prints t runs codes tables list s xs → (ys : List ℕ) × Prints t runs codes tables list′ s′ ys × (xs ≡ take n out′ ++ ys)
+  step-first (Refused r) R S room n s′ e xs P = (
+    [],
+    subst (λ i. Prints t runs codes tables list′ i []) (same-bytes (sym (S .0 .is) ∙ e) .1) refl,
+    P ∙ sym (first-bytes (S .0) room n s′ e) ∙ sym (append-nil (take n out′)),
+  )
+  step-first (Asks z p) R S room n s′ e xs P = turn-first R room e S xs P
+  step-first Over R S room n s′ e xs P = let y : _≡_ {A = ℕ} 0 1 = let g = sym e ∙ S .0 in cc in absurd (omega arith)
 
   -- and nothing where the step wrote no line
   pub step-over : (s : Stage) → Stands t runs codes tables list s → StepOf t runs codes tables s list out list′ out′ x → x ≡ Nothing → Prints t runs codes tables list s []
@@ -210,6 +307,23 @@ few-bytes t runs codes tables (Asks z p) list out list′ out′ (step.line i y 
 few-bytes t runs codes tables (Asks z p) list out list′ out′ (step.unfinished le at l w) n s′ e = omega (arith, w .short, same-bytes (sym (w .is) ∙ e) .0)
 few-bytes t runs codes tables (Asks z p) list out list′ out′ (step.none le at l o f) n s′ e = let y : _≡_ {A = ℕ} 0 1 = let g = sym e ∙ f in cc in absurd (omega arith)
 few-bytes t runs codes tables Over list out list′ out′ S n s′ e = let y : _≡_ {A = ℕ} 0 1 = let g = sym e ∙ S .0 in cc in absurd (omega arith)
+
+-- and a line has bytes
+head-some : (y : RidesAnswer) → 0 < length (headOf y)
+head-some (rides.At j) = at-some (j .dep) (j .arr) (j .rides)
+head-some (rides.No r) = no-some (r .number)
+
+writes-some : {out xs out′ : List ℕ} {s : Stage} {x : Step} → Writes out xs s out′ x → 0 < length xs → (n : ℕ) (s′ : Stage) → x ≡ Printed n s′ → 0 < n
+writes-some w h n s′ e = omega (arith, w .wrote .end, same-bytes (sym (w .is) ∙ e) .0)
+
+pub some-bytes : (t runs codes tables : List ℕ) (s : Stage) (list out list′ out′ : List ℕ) {x : Step} → StepOf t runs codes tables s list out list′ out′ x →
+    (n : ℕ) (s′ : Stage) → x ≡ Printed n s′ → 0 < n
+some-bytes t runs codes tables (Refused r) list out list′ out′ S n s′ e = writes-some (S .0) (no-place-some _ _) n s′ e
+some-bytes t runs codes tables (Asks z p) list out list′ out′ (step.ride lt l w) n s′ e = writes-some w (ride-some _ _ _ _ _ _) n s′ e
+some-bytes t runs codes tables (Asks z p) list out list′ out′ (step.line i y le at g w) n s′ e = writes-some w (head-some y) n s′ e
+some-bytes t runs codes tables (Asks z p) list out list′ out′ (step.unfinished le at l w) n s′ e = writes-some w (no-some lineShape) n s′ e
+some-bytes t runs codes tables (Asks z p) list out list′ out′ (step.none le at l o f) n s′ e = let y : _≡_ {A = ℕ} 0 1 = let g = sym e ∙ f in cc in absurd (omega arith)
+some-bytes t runs codes tables Over list out list′ out′ S n s′ e = let y : _≡_ {A = ℕ} 0 1 = let g = sym e ∙ S .0 in cc in absurd (omega arith)
 
 -- ---- no second step, no second list and no second bytes meet the contract
 

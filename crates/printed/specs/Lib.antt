@@ -3,3 +3,4 @@ pub mod DecimalLaws
 pub mod Wrote
 pub mod WroteLaws
 pub mod ReadBack
+pub mod LineLaws

@@ -4,3 +4,5 @@ pub mod AcceptedLaws
 pub mod BuiltLaws
 pub mod DemandsLaws
 pub mod CallsLaws
+pub mod Printed
+pub mod PrintedLaws

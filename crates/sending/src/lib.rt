@@ -1,5 +1,8 @@
-// The lines that a program prints, handed on to standard output one after the other. Which lines they are is fixed in the crate `output`.
-use libc::STDOUT_FILENO;
+// The lines that a program prints, handed on to standard output one after the other. Which lines they are is fixed in the crate `output`; that they were
+// written, or that a write failed, is told by the values of the crate `handing`, which cannot be made otherwise.
+use handing::Failure;
+use handing::Handed;
+use handing::Written;
 use output::Stage;
 use output::Step;
 ghost use Prim.Native.Nat.{_≤_};
@@ -8,17 +11,10 @@ ghost use Rattle.printed.specs.Printed.{lineRoom};
 ghost use Rattle.output.specs.Steps.{Stands};
 ghost use Rattle.sending.specs.Sent.{SentFrom};
 
-// All lines were written, so many bytes; or a write failed, and nothing was written after it.
+// All lines were written; or a write failed, and nothing was written after it.
 pub enum Sent {
-    All(usize),
-    Cut,
-}
-
-// The first n bytes of the buffer go to standard output; false where that fails.
-fn send(out: &[u8], n: usize) -> bool
-    requires { ⌜ n ≤ length (now out) ⌝ }
-{
-    io::write_all(STDOUT_FILENO, &out[..n])
+    All(Written),
+    Cut(Failure),
 }
 
 // All lines from the stage `first` on.
@@ -36,19 +32,24 @@ pub fn print(
     ensures { λ r. ⌜ SentFrom (now (input .entry)) (now (runs .entry)) (now (codes .entry)) (now (tables .entry)) (now (list .entry)) first r ⌝ }
 {
     let mut stage = first;
-    let mut total = 0;
+    let mut written = Written::none();
     loop {
         let step = output::next(input, runs, codes, tables, stage, list, out);
         match step {
             Step::Nothing => {
-                return Sent::All(total);
+                return Sent::All(written);
             }
             Step::Printed(n, after) => {
-                if !send(out, n) {
-                    return Sent::Cut;
+                let handed = handing::hand(written, out, n);
+                match handed {
+                    Handed::Failed(f) => {
+                        return Sent::Cut(f);
+                    }
+                    Handed::All(more) => {
+                        written = more;
+                        stage = after;
+                    }
                 }
-                total += n;
-                stage = after;
             }
         }
     }

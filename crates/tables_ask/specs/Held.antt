@@ -1,8 +1,10 @@
 -- The text and, behind it, the asks are held in one room.
 use Prim.Native.Nat.{ℕ, _+_}
+use mathlib.Core.Path.{_≡_}
 use mathlib.Core.List.{List}
-use lib.ListN.{take}
+use lib.ListN.{length, take}
 use Rattle.kinds.specs.Limits.{mostText, mostInput, runsRoom, codesRoom}
+use Rattle.reader.specs.Text.{readText, runsOf, codesOf}
 use Rattle.ground.specs.Ground.{groundRoom}
 use Rattle.desk.specs.Told.{Accepts}
 use Rattle.output.specs.declared.Sizes.{Sizes}
@@ -16,9 +18,12 @@ heldRoom = mostText + 1 + (mostInput + 1)
 abbrev pub sizesOf : ℕ → ℕ → ℕ → ℕ → Sizes
 sizesOf stops count text tables = record { stops = stops; runs = count; text = text; tables = tables }
 
--- the tables are accepted against the text that stands before the asks in the input
-abbrev pub AcceptedFor : List ℕ → List ℕ → Sizes → Type 0
-AcceptedFor input tables z = Accepts (take (z .text) input) tables runsRoom codesRoom groundRoom (record { stops = z .stops; runs = z .runs })
+-- the tables are accepted against the text that stands before the asks in the input; these are the numbers and the codes' places that the reader left of it
+pub record AcceptedFor (input runs codes tables : List ℕ) (z : Sizes) : Type 0 where
+  pub accepts : Accepts (take (z .text) input) tables runsRoom codesRoom groundRoom (record { stops = z .stops; runs = z .runs })
+  pub runs-are : runs ≡ runsOf (readText (take (z .text) input) runsRoom codesRoom) runsRoom
+  pub codes-are : codes ≡ codesOf (readText (take (z .text) input) runsRoom codesRoom) codesRoom
+  pub all : z .tables ≡ length tables
 
 -- the first ask line follows the text
 abbrev pub firstTurn : ℕ → Turn

@@ -12,13 +12,15 @@ use libc::STDOUT_FILENO;
 use output::Sizes;
 use output::Stage;
 use output::Turn;
+use sending::Sent;
 ghost use mathlib.Core.Path.{_≡_};
 ghost use Prim.Native.Nat.{_+_, _≤_};
 ghost use lib.ListN.{length, take, replicate};
 ghost use Rattle.kinds.specs.Limits.{mostText, mostInput, lastMinute};
 ghost use Rattle.files.specs.Files.{ReadWithin};
 ghost use Rattle.output.specs.Steps.{Ready};
-ghost use Rattle.tables_ask.specs.Held.{heldRoom, AcceptedFor};
+ghost use Rattle.sending.specs.Sent.{SentFrom};
+ghost use Rattle.tables_ask.specs.Held.{heldRoom, AcceptedFor, firstTurn};
 
 // Room for the text and, behind it, the asks; of each one byte more than there may be, which tells what is too long.
 fn held_room() -> [u8; Text::MOST + 1 + (Text::INPUT_MOST + 1)]
@@ -47,12 +49,18 @@ fn read_asks(held: &mut [u8], n: usize) -> usize
 }
 
 // What the asks get, from the first line on; only accepted tables answer.
-fn answer(input: &[u8], runs: &[u32], codes: &[u32], tables: &[u8], sizes: Sizes, first: Turn)
-    requires { ⌜ Ready (now input) (now runs) (now codes) (now tables) (replicate lastMinute 0) sizes first ⌝ }
-    requires { ⌜ AcceptedFor (now input) (now tables) sizes ⌝ }
+fn answer(input: &[u8], runs: &[u32], codes: &[u32], tables: &[u8], sizes: Sizes) -> Sent
+    requires { ⌜ Ready (now input) (now runs) (now codes) (now tables) (replicate lastMinute 0) sizes (firstTurn (sizes .text)) ⌝ }
+    requires { ⌜ AcceptedFor (now input) (now runs) (now codes) (now tables) sizes ⌝ }
+    ensures { λ r. ⌜ SentFrom (now (input .entry)) (now (runs .entry)) (now (codes .entry)) (now (tables .entry)) (replicate lastMinute 0) (Stage.Asks sizes (firstTurn (sizes .text))) r ⌝ }
 {
     let mut list = [0u32; Minute::LAST as usize];
     let mut out = [0u8; printed::LINE_ROOM];
+    let first = Turn {
+        at: sizes.text,
+        ride: 0,
+        rides: 0,
+    };
     sending::print(
         input,
         runs,
@@ -61,7 +69,7 @@ fn answer(input: &[u8], runs: &[u32], codes: &[u32], tables: &[u8], sizes: Sizes
         Stage::Asks(sizes, first),
         &mut list,
         &mut out,
-    );
+    )
 }
 
 // More asks than the program holds get one answer.
@@ -109,11 +117,6 @@ fn serve(held: &mut [u8], n: usize, tables: &[u8])
                     runs: counts.runs,
                     text: n,
                     tables: tables.len(),
-                },
-                Turn {
-                    at: n,
-                    ride: 0,
-                    rides: 0,
                 },
             );
         }

@@ -1,28 +1,34 @@
 use Prim.Native.Nat.{_≤_}
-use mathlib.Core.Path.{_≡_, refl, _∙_}
+use mathlib.Core.Path.{_≡_, refl, ap, _∙_}
 use native.Mathlib.Omega.{arith}
 use lib.ListN.{length}
 use Rattle.printed.specs.Printed.{lineRoom}
+use Rattle.handing.specs.declared.Written.{Written}
+use Rattle.handing.specs.HandingLaws.{handed-all, handed-failed}
 use Rattle.output.specs.StepLaws.{left}
-use Rattle.output.specs.OutputLaws.{Along, along-none, along-bytes, along-less, along-total, along-more, along-all}
+use Rattle.output.specs.OutputLaws.{Along, along-none, along-bytes, along-less, along-total, along-more, along-due, along-all}
 use borrow.Author.Needs.{needs}
 use Rattle.sending.proofs.print.Statement.{statement}
 use Rattle.sending.proofs.print.Tie as tie
 use Rattle.sending.proofs.print.Reads as reads
 use Rattle.sending.proofs.print.Lts as lts
-use Rattle.sending.proofs.send.Reads as send-reads
+use Rattle.handing.proofs.Written.none.Reads as none-reads
+use Rattle.handing.proofs.hand.Reads as hand-reads
 use Rattle.output.proofs.next.Reads as next-reads
 
 abbrev Inv-loop : tie.InvT-loop
-Inv-loop input runs codes tables list₀ out₀ stage₀ total₀ list out stage total = Along input runs codes tables list₀ stage₀ list stage total × (lineRoom ≤ length out) × (length list ≡ length list₀) × (length out ≡ length out₀)
+Inv-loop input runs codes tables list₀ out₀ stage₀ written₀ list out stage written = Along input runs codes tables list₀ stage₀ list stage (written .bytes) × (lineRoom ≤ length out) × (length list ≡ length list₀) × (length out ≡ length out₀)
 
 abbrev μ-loop : tie.MeasureT-loop
-μ-loop input runs codes tables list₀ out₀ stage₀ total₀ list out stage total = left (length input) stage
+μ-loop input runs codes tables list₀ out₀ stage₀ written₀ list out stage written = left (length input) stage
+
+none-requires : tie.Need-none-requires Inv-loop μ-loop
+none-requires c κs = search needs
 
 loop-holds : tie.Need-loop-holds Inv-loop μ-loop
 loop-holds c =
-    let s = c .before .before .before .before .before .before in
-    (along-none _ _ _ _ _ _ (s .pre .1), s .pre .0, refl, refl)
+    let s = c .before .before .before .before .before .before .before in
+    (along-none _ _ _ _ _ _ (s .pre .1) (ap (λ (w : Written). w .bytes) (c .none .ensures)), s .pre .0, refl, refl)
 
 next-requires : tie.Need-next-requires Inv-loop μ-loop
 next-requires c κs =
@@ -47,12 +53,17 @@ returns c =
 enum-known-step : tie.Need-enum-known-step Inv-loop μ-loop
 enum-known-step c = search needs
 
-send-requires : tie.Need-send-requires Inv-loop μ-loop
-send-requires c κs =
+hand-requires : tie.Need-hand-requires Inv-loop μ-loop
+hand-requires c κs =
     let k = c .before .before in
     let n = k .before .before .before .before .before .before in
-    let i = n .before .before .before .loop .inv in
-    omega (arith, along-bytes _ _ _ _ _ _ _ _ _ _ _ (i .0) (n .next .ensures) _ _ (k .step .given .1), i .1, n .next .kept .1 .1 .1 .1 .1 .1 .0)
+    let i = n .before .before .before .loop .inv in (
+      omega (arith, along-bytes _ _ _ _ _ _ _ _ _ _ _ (i .0) (n .next .ensures) _ _ (k .step .given .1), i .1, n .next .kept .1 .1 .1 .1 .1 .1 .0),
+      omega (arith, along-total _ _ _ _ _ _ _ _ _ _ _ (i .0) (n .next .ensures) _ _ (k .step .given .1) (n .next .kept .1 .1 .1 .1 .1 .0)),
+    )
+
+enum-known-handed : tie.Need-enum-known-handed Inv-loop μ-loop
+enum-known-handed c = search needs
 
 same-length-3 : tie.Need-same-length-3 Inv-loop μ-loop
 same-length-3 c = search needs
@@ -61,30 +72,34 @@ same-length-4 : tie.Need-same-length-4 Inv-loop μ-loop
 same-length-4 c = search needs
 
 returns-2 : tie.Need-returns-2 Inv-loop μ-loop
-returns-2 c = search needs
-
-add-total : tie.Need-add-total Inv-loop μ-loop
-add-total c =
-    let k = c .before .before .before .before in
+returns-2 c =
+    let h = c .before .before .before in
+    let k = h .before .before .before in
     let n = k .before .before .before .before .before .before in
     let i = n .before .before .before .loop .inv in
-    omega (arith, along-total _ _ _ _ _ _ _ _ _ _ _ (i .0) (n .next .ensures) _ _ (k .step .given .1) (n .next .kept .1 .1 .1 .1 .1 .0))
+    let f = handed-failed (h .hand .ensures) _ (c .before .handed .given .1) in
+    let d = along-due _ _ _ _ _ _ _ _ _ _ _ (i .0) (n .next .ensures) _ _ (k .step .given .1) (i .1) (n .next .kept .1 .1 .1 .1 .1 .1 .0) in
+    record { some = omega (arith, d .0, f .1); due = λ xs P. omega (arith, d .1 xs P, f .0, f .1) }
+
+enum-known-handed-2 : tie.Need-enum-known-handed-2 Inv-loop μ-loop
+enum-known-handed-2 c = search needs
 
 loop-less : tie.Need-loop-less Inv-loop μ-loop
 loop-less c =
-    let k = c .before .before .before .before in
+    let k = c .before .before .before .before .before .before in
     let n = k .before .before .before .before .before .before in
     let i = n .before .before .before .loop .inv in
     along-less _ _ _ _ _ _ _ _ _ _ _ (i .0) (n .next .ensures) _ _ (k .step .given .1) (n .next .kept .1 .1 .1 .1 .1 .0)
 
 loop-again : tie.Need-loop-again Inv-loop μ-loop
 loop-again c =
-    let k = c .before .before .before .before in
+    let h = c .before .before .before in
+    let k = h .before .before .before in
     let n = k .before .before .before .before .before .before in
     let i = n .before .before .before .loop .inv in
     let l = n .next .kept .1 .1 .1 .1 .1 .0 in
     let o = n .next .kept .1 .1 .1 .1 .1 .1 .0 in
-    (along-more _ _ _ _ _ _ _ _ _ _ _ (i .0) (n .next .ensures) _ _ (k .step .given .1) l (i .1) o, omega (arith, i .1, o), l ∙ i .2, o ∙ i .3)
+    (along-more _ _ _ _ _ _ _ _ _ _ _ (i .0) (n .next .ensures) _ _ (k .step .given .1) l (i .1) o (handed-all (h .hand .ensures) _ (c .before .handed2 .given .1)), omega (arith, i .1, o), l ∙ i .2, o ∙ i .3)
 
 pub print-spec : {M : Type 1} → statement M
 print-spec =
@@ -92,6 +107,7 @@ print-spec =
     (tie.spec
     Inv-loop
     μ-loop
+    none-requires
     loop-holds
     next-requires
     enum-told
@@ -99,10 +115,11 @@ print-spec =
     same-length-2
     returns
     enum-known-step
-    send-requires
+    hand-requires
+    enum-known-handed
     same-length-3
     same-length-4
     returns-2
-    add-total
+    enum-known-handed-2
     loop-less
     loop-again)

@@ -102,7 +102,8 @@ answer-requires c κs =
     let l = length-take-le (z .args .n) (z .args .held .now) (omega (arith, z .pre .0, z .pre .1)) in (
       can-answer (z .args .held .now) (q .read-asks .last .0) (z .args .n) (q .read-asks .result) (g .0) (q .read-asks .ensures .1) (omega (arith, g .1, l)) (e .if1 .left)
           (omega (arith, z .pre .0, z .pre .1, q .read-asks .ensures .0, q .read-asks .kept .0)) (z .args .tables .now),
-      still-accepted (z .args .held .now) (q .read-asks .last .0) (z .args .n) (q .read-asks .result) (admitted-accepts (a .admit .ensures .0) (v .admitted2 .given .1)) (q .read-asks .ensures .1),
+      still-accepted (z .args .held .now) (q .read-asks .last .0) (z .args .n) (q .read-asks .result) (admitted-accepts (a .admit .ensures .0) (v .admitted2 .given .1)) (a .admit .ensures .1 .1 .0) (a .admit .ensures .1 .1 .1 .0)
+          (q .read-asks .ensures .1),
     )
 
 same-length-2 : tie.Need-same-length-2
