@@ -1,9 +1,10 @@
 -- Laws of the answers: a line prints one text; what that is by the rides that are listed; and every listed ride can be printed.
-use Prim.Native.Nat.{ℕ, zero, suc, _-_, _≤_, _<_}
+use Prim.Native.Nat.{ℕ, zero, suc, _+_, _-_, _≤_, _<_}
 use mathlib.Core.Path.{_≡_, refl, sym, ap, ap₂, _∙_}
-use mathlib.Core.List.{List, _++_, append-nil}
+use mathlib.Core.List.{List, [], _++_, append-nil, append-assoc}
 use mathlib.Core.Bool.{true, false, cond}
 use native.Mathlib.Omega.{arith}
+use native.Mathlib.Nat.{zero-add}
 use lib.ListN.{length, getD, replicate, length-append, List·getD-append}
 use lib.Dec.{eqb, leb}
 use borrow.Author.Tests.{leb-true}
@@ -31,7 +32,7 @@ use Rattle.rides.specs.ListsLaws.{lists-one, lists-lent}
 use Rattle.askline.specs.declared.LineRead.{LineRead}
 use Rattle.askline.specs.declared.LineRead.the-variants as line
 use Rattle.printed.specs.Printed.{atLine, noLine}
-use Rattle.answers.specs.Answers.{LineGets, ridesIn, runLine, rideLines, printedFor, PrintedAsk, Named, Ridden}
+use Rattle.answers.specs.Answers.{LineGets, headOf, ridesIn, runLine, rideLines, printedFor, PrintedAsk, Named, Ridden}
 
 -- ---- a line prints one text
 pub gets-one : (b : List ℕ) (stops count : ℕ) (runs : List ℕ) (lent : ℕ) (read : LineRead) (before m n : List ℕ) (x y : RidesAnswer) →
@@ -54,6 +55,32 @@ gets-lent b stops count runs lent (line.Asked q) before other after x n f =
     lists-lent (serviceOf stops count runs) (tablesOf b) (ridesAsked b stops count runs lent (q .from) (q .to) (q .wanted)) before other after x n f
 
 -- ---- what is printed, by the rides that are listed
+
+module _ (s codes runs list : List ℕ) where
+  -- no ride prints nothing; one ride more, its line behind those before it
+  pub lines-none : rideLines s codes runs list 0 ≡ []
+  unfolding rideLines
+  lines-none = refl
+
+  pub lines-more : (k : ℕ) → rideLines s codes runs list (k + 1) ≡ rideLines s codes runs list k ++ runLine s codes (runAt runs (getD list k 0))
+  unfolding rideLines
+  lines-more k = let e : k + 1 ≡ suc k = omega arith in ap (rideLines s codes runs list) e
+
+  -- the lines of more rides begin with those of the first k
+  pub lines-on : (j k : ℕ) → (m : List ℕ) × (rideLines s codes runs list (j + k) ≡ rideLines s codes runs list k ++ m)
+  lines-on zero k = ([], ap (rideLines s codes runs list) (zero-add k) ∙ sym (append-nil (rideLines s codes runs list k)))
+  lines-on (suc j) k =
+      let f = lines-on j k in
+      let r = runLine s codes (runAt runs (getD list (j + k) 0)) in
+      let e : suc j + k ≡ j + k + 1 = omega arith in (
+        f .0 ++ r,
+        ap (rideLines s codes runs list) e ∙ lines-more (j + k) ∙ ap (λ (l : List ℕ). l ++ r) (f .1) ∙ append-assoc (rideLines s codes runs list k) (f .0) r,
+      )
+
+  -- an answer prints its first line, and then its rides
+  pub printed-is : (x : RidesAnswer) → printedFor s codes runs list x ≡ headOf x ++ rideLines s codes runs list (ridesIn x)
+  unfolding printedFor
+  printed-is x = refl
 
 -- only the rides that are printed count
 lines-same : (s codes runs l m : List ℕ) (k : ℕ) → ((i : ℕ) → i < k → getD l i 0 ≡ getD m i 0) → rideLines s codes runs l k ≡ rideLines s codes runs m k

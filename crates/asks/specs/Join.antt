@@ -33,7 +33,7 @@ abbrev pub pastB : Label → ℕ → ℕ → Bool
 pastB l hub minute = aheadB hub (l .hub) (leb minute (l .dep))
 
 -- out-label k of u, read as l, and where its partner stands
-pub record OutTurn (b : List ℕ) (u v outTo inFrom inTo k : ℕ) (l : Label) (m : ℕ) : Type 0 where
+pub record OutTurn (b : List ℕ) (u outTo inFrom inTo k : ℕ) (l : Label) (m : ℕ) : Type 0 where
   pub low : tablesOf b .start outs u ≤ k
   pub high : k < outTo
   pub read : l ≡ labelAt b k

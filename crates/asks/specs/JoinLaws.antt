@@ -43,7 +43,7 @@ module _ (b : List ℕ) (hub minute m : ℕ) where
   past-false e f g = past-not (ap (λ x. pastB x hub minute) (sym e) ∙ sym f ∙ g)
 
 -- a turn over the out-labels
-module _ {b : List ℕ} {n u v outFrom outTo inFrom inTo k : ℕ} {l : Label} {m : ℕ} (S : Sets b n u v outFrom outTo inFrom inTo) (t : OutTurn b u v outTo inFrom inTo k l m) where
+module _ {b : List ℕ} {n u v outFrom outTo inFrom inTo k : ℕ} {l : Label} {m : ℕ} (S : Sets b n u v outFrom outTo inFrom inTo) (t : OutTurn b u outTo inFrom inTo k l m) where
   partner-of : FirstAt (Past (tablesOf b) (tablesOf b .hub k) (tablesOf b .arr k)) inFrom inTo m
   unfolding tablesOf
   partner-of = subst (λ x. FirstAt (Past (tablesOf b) (x .hub) (x .arr)) inFrom inTo m) (t .read) (t .partner)
@@ -93,7 +93,7 @@ module _ {b : List ℕ} {n u v outFrom outTo inFrom inTo : ℕ} (S : Sets b n u 
   unfolding tablesOf
   passed-as k {next} e P = subst (λ x. Passed (Past (tablesOf b) (x .hub) (x .arr)) inFrom next) (sym e) P
 
-  pub out-turn-at : {best : Found} {next k : ℕ} {l : Label} {m : ℕ} → OutsTo b u v c outFrom outTo inTo best next k → k < outTo → l ≡ labelAt b k → FirstAt (Past (tablesOf b) (l .hub) (l .arr)) next inTo m → OutTurn b u v outTo inFrom inTo k l m
+  pub out-turn-at : {best : Found} {next k : ℕ} {l : Label} {m : ℕ} → OutsTo b u v c outFrom outTo inTo best next k → k < outTo → l ≡ labelAt b k → FirstAt (Past (tablesOf b) (l .hub) (l .arr)) next inTo m → OutTurn b u outTo inFrom inTo k l m
   out-turn-at {best} {next} {k} {l} {m} O lt e F = record {
     low = omega (arith, O .low, S .out-start);
     high = lt;
@@ -101,7 +101,7 @@ module _ {b : List ℕ} {n u v outFrom outTo inFrom inTo : ℕ} (S : Sets b n u 
     partner = first-extend (passed-as k e (rw (← S .in-start) (O .place .behind .passed k (le-refl k) (omega (arith, S .out-end))))) F;
   }
 
-  pub outs-again : {best best′ : Found} {next k : ℕ} {l : Label} {m : ℕ} → OutsTo b u v c outFrom outTo inTo best next k → OutTurn b u v outTo inFrom inTo k l m → FoundIn (FromOuts (tablesOf b) u v (k + 1)) c best′ → OutsTo b u v c outFrom outTo inTo best′ m (k + 1)
+  pub outs-again : {best best′ : Found} {next k : ℕ} {l : Label} {m : ℕ} → OutsTo b u v c outFrom outTo inTo best next k → OutTurn b u outTo inFrom inTo k l m → FoundIn (FromOuts (tablesOf b) u v (k + 1)) c best′ → OutsTo b u v c outFrom outTo inTo best′ m (k + 1)
   outs-again O t f = record { low = omega (arith, O .low); high = omega (arith, t .high); found = f; place = turn-place S t (O .place) }
 
   pub outs-done : {best : Found} {next k : ℕ} → OutsTo b u v c outFrom outTo inTo best next k → outTo ≤ k → OutsTo b u v c outFrom outTo inTo best next outTo

@@ -171,7 +171,7 @@ fn out_turn(
     m: usize,
     best: Found,
 ) -> Found
-    requires { ⌜ ((outFrom outTo inFrom : ℕ) × Sets (now tables) n u v outFrom outTo inFrom «in_to» × OutTurn (now tables) u v outTo inFrom «in_to» k l m) ⌝ }
+    requires { ⌜ ((outFrom outTo inFrom : ℕ) × Sets (now tables) n u v outFrom outTo inFrom «in_to» × OutTurn (now tables) u outTo inFrom «in_to» k l m) ⌝ }
     requires { ⌜ FoundIn (FromOuts (tablesOf (now tables)) u v k) c best ⌝ }
     ensures { λ r. ⌜ FoundIn (FromOuts (tablesOf (now (tables .entry))) u v (k + 1)) c r ⌝ }
 {

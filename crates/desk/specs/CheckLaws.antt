@@ -23,7 +23,7 @@ use Rattle.tables.specs.Format.{formatMark, headerBytes, entryBytes}
 use Rattle.tables.specs.File.{stopsOf, labelsOf, placeOf, tablesOf}
 use Rattle.tables.specs.Judged as tables-judged
 use Rattle.tables.specs.Judged.{firstBad, judgedContents, judgedTables}
-use Rattle.tables.specs.Good.{Room, GoodFile}
+use Rattle.tables.specs.Good.{GoodFile}
 use Rattle.tables.specs.FileLaws.{set-within}
 use Rattle.tables.specs.RefusalLaws.{judged-bad}
 use Rattle.tables.specs.TablesLaws.{good-stops, tables-within}

@@ -9,19 +9,16 @@ use native.Mathlib.Omega.{arith}
 use native.Mathlib.Decide.{ℕ-discrete}
 use borrow.Author.Tests.{lt-ltb, le-ltb}
 use Rattle.kinds.specs.Limits.{noPivot, runsRoom}
-use Rattle.kinds.specs.Refusals.{labelBad, unsupported, gap}
 use Rattle.kinds.specs.declared.Refusal.{Refusal}
 use Rattle.journeys.specs.Tables.{outs, ins, Tables, Entry, LabelAt, of-out, of-in}
 use Rattle.tables.specs.File.{startOf, labelsOf, labelAt, pivotOf, tablesOf}
 use Rattle.tables.specs.FileLaws.{start-none, start-more}
 use Rattle.tables.specs.Good.{Room, GoodFile}
 use Rattle.tables.specs.TablesLaws.{pivot-none, pivot-some, good-stops, room-entry, entry-only, good-tables}
-use Rattle.timetable.specs.Numbers.{runAt, GoodRunAt}
 use Rattle.reader.specs.Text.{GoodRead}
-use Rattle.answers.specs.Answers.{Named}
 use Rattle.answers.specs.AnswersLaws.{named-all}
 use Rattle.report.specs.Lines.{ChangeIn, entryLine}
-use Rattle.desk.specs.Spelled.{changeAt, stopSpelled, sideOf, pivotSaid, BadSpelled, BadPlace, AllNamed, Spellable}
+use Rattle.desk.specs.Spelled.{changeAt, stopSpelled, sideOf, pivotSaid, BadSpelled, AllNamed, Spellable}
 use Rattle.desk.specs.CheckLaws.{Places}
 
 module _ (b : List ℕ) where

@@ -16,7 +16,7 @@ use Rattle.journeys.specs.declared.Criterion.the-variants.{Early}
 use Rattle.journeys.specs.Service.{Service, RideAt, GoodService}
 use Rattle.journeys.specs.Journey.{Journey, one, more, rides, Within}
 use Rattle.journeys.specs.Criteria.{Best, Answer, Nothing}
-use Rattle.journeys.specs.Tables.{Side, outs, ins, Tables, Entry, LabelAt, of-out, of-in, Label, GoodTables, Sketch, single, joined, LabelWith}
+use Rattle.journeys.specs.Tables.{Side, outs, ins, Tables, Entry, of-out, of-in, Label, GoodTables, Sketch, single, joined, LabelWith}
 use Rattle.journeys.specs.Check.{Halves, Supported, SupportedAt, AllSupported, NoGap, NoGapAt, NoGaps, Accepted, Unsupported, Missed}
 use Rattle.journeys.specs.PairLaws.{itself, wider}
 use Rattle.journeys.specs.CriteriaLaws.{best-same, nothing-same, early-best, early-least, early-within}

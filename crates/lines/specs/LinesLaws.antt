@@ -8,7 +8,7 @@ use lib.ListN.{length}
 use lib.Dec.{ltb, leb, eqb}
 use borrow.Author.Tests.{leb-false, ltb-true, ltb-false, not-false}
 use Rattle.loops.specs.Chain.{past}
-use Rattle.kinds.specs.Limits.{mostStops, mostRuns, mostText}
+use Rattle.kinds.specs.Limits.{mostStops, mostRuns}
 use Rattle.kinds.specs.Kinds.{runOf, GoodRun}
 use Rattle.kinds.specs.KindsLaws.{run-good}
 use Rattle.kinds.specs.declared.Code.{Code}

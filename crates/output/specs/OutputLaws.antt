@@ -16,7 +16,7 @@ use Rattle.askline.specs.Input.{timetableEnd}
 use Rattle.askline.specs.InputLaws.{timetable-within}
 use Rattle.printed.specs.Printed.{lineRoom}
 use Rattle.answers.specs.Answers.{rideLines}
-use Rattle.answers.specs.AnswersLaws.{printed-one}
+use Rattle.answers.specs.AnswersLaws.{printed-one, lines-none}
 use Rattle.output.specs.Output.{readInput, StartOf, unread, unbuilt, built, Held, LinePrints, LinesPrint, none, unfinished, line, TurnPrints, Prints, OutputOf}
 use Rattle.output.specs.InputLaws.{read-held, input-good}
 use Rattle.output.specs.Steps.{StepOf, Stands}
@@ -55,13 +55,17 @@ module _ (t : List ℕ) (roomR roomC : ℕ) {work lent : ℕ} (runs codes tables
 -- at the first turn no rides are listed: nothing of the list is printed
 first-turn : {h : Held} {t list other : List ℕ} {a : ℕ} {xs : List ℕ} → TurnPrints h t list (record { at = a; ride = 0; rides = 0 }) xs →
     TurnPrints h t other (record { at = a; ride = 0; rides = 0 }) xs
-unfolding rideLines
-first-turn P = record { left = P .left; rides = P .rides; rest = P .rest; lines = P .lines; is = P .is }
+first-turn {h} {list = list} {other} P =
+    let none : (l : List ℕ) → rideLines (h .text) (h .codes) (h .runs) l 0 ≡ [] = lines-none (h .text) (h .codes) (h .runs) in
+    let same = none list ∙ sym (none other) in
+    record { left = P .left; rides = sym same ∙ P .rides ∙ ap (λ (l : List ℕ). l ++ P .left) same; rest = P .rest; lines = P .lines; is = P .is }
 
 -- what the lines from there on print is all
 pub first-lines : {h : Held} {t list : List ℕ} {a : ℕ} {xs : List ℕ} → TurnPrints h t list (record { at = a; ride = 0; rides = 0 }) xs → LinesPrint (LinePrints h t) t a xs
-unfolding rideLines
-first-lines {h} {t} {list} {a} P = subst (LinesPrint (LinePrints h t) t a) (sym (P .is ∙ ap (λ (l : List ℕ). l ++ P .rest) (sym (P .rides)))) (P .lines)
+first-lines {h} {t} {list} {a} P =
+    let none = lines-none (h .text) (h .codes) (h .runs) list in
+    let left : [] ≡ P .left = sym none ∙ P .rides ∙ ap (λ (l : List ℕ). l ++ P .left) none in
+    subst (LinesPrint (LinePrints h t) t a) (sym (P .is ∙ ap (λ (l : List ℕ). l ++ P .rest) (sym left))) (P .lines)
 
 -- what is to be printed after the start, with the rooms that the program has
 abbrev StartPrints : List ℕ → List ℕ → List ℕ → Stage → List ℕ → Type 0

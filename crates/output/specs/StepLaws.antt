@@ -3,7 +3,6 @@ use Prim.Native.Nat.{ℕ, zero, suc, _+_, _*_, _-_, _≤_, _<_}
 use mathlib.Core.Path.{_≡_, refl, sym, ap, ap₂, subst, subst₂, _∙_}
 use mathlib.Core.List.{List, [], _∷_, _++_, append-assoc, append-nil}
 use native.Mathlib.Omega.{arith}
-use native.Mathlib.Nat.{zero-add}
 use lib.ListN.{length, take, getD, replicate, length-replicate}
 use Rattle.kinds.specs.Limits.{lastMinute}
 use Rattle.kinds.specs.Refusals.{lineShape}
@@ -19,8 +18,8 @@ use Rattle.askline.specs.InputLaws.{line-within}
 use Rattle.printed.specs.Printed.{noLine, lineRoom}
 use Rattle.printed.specs.LineLaws.{at-some, ride-some, no-some, no-place-some}
 use Rattle.printed.specs.WroteLaws.{wrote-first, wrote-one}
-use Rattle.answers.specs.Answers.{LineGets, headOf, ridesIn, runLine, rideLines, printedFor, Ridden}
-use Rattle.answers.specs.AnswersLaws.{gets-one, gets-lent, ridden-all}
+use Rattle.answers.specs.Answers.{LineGets, headOf, ridesIn, runLine, rideLines, Ridden}
+use Rattle.answers.specs.AnswersLaws.{gets-one, gets-lent, lines-none, lines-more, lines-on, printed-is, ridden-all}
 use Rattle.output.specs.Output.{Held, heldOf, LinePrints, LinesPrint, none, unfinished, line, TurnPrints, Prints}
 use Rattle.output.specs.Steps as step
 use Rattle.output.specs.Steps.{Writes, TurnStep, StepOf, mostHeld, Ready, Stands}
@@ -118,16 +117,6 @@ pub append-one : (l : List ℕ) {xs ys : List ℕ} → l ++ xs ≡ l ++ ys → x
 append-one [] e = e
 append-one (x ∷ l) e = append-one l cc
 
--- the lines of more rides begin with those of the first k
-rides-on : (s codes runs list : List ℕ) (j k : ℕ) → (m : List ℕ) × (rideLines s codes runs list (j + k) ≡ rideLines s codes runs list k ++ m)
-unfolding rideLines
-rides-on s codes runs list zero k = ([], ap (rideLines s codes runs list) (zero-add k) ∙ sym (append-nil (rideLines s codes runs list k)))
-rides-on s codes runs list (suc j) k =
-    let f = rides-on s codes runs list j k in
-    let r = runLine s codes (runAt runs (getD list (j + k) 0)) in
-    let e : suc j + k ≡ suc (j + k) = omega arith in
-    (f .0 ++ r, ap (rideLines s codes runs list) e ∙ ap (λ (l : List ℕ). l ++ r) (f .1) ∙ append-assoc (rideLines s codes runs list k) (f .0) r)
-
 -- where the last line has no LF, "no 2" is all that is left
 unfinished-is : {P : ℕ → ℕ → List ℕ → Type 0} {t : List ℕ} {a : ℕ} {xs : List ℕ} → pieceAt t a ≡ piece.Unfinished → LinesPrint P t a xs → xs ≡ noLine lineShape
 unfinished-is at (none at′ is) = let k : _≡_ {A = ℕ} 0 1 = let j = sym at ∙ at′ in cc in absurd (omega arith)
@@ -159,15 +148,13 @@ module _ {t runs codes tables list : List ℕ} {z : Sizes} {p : Turn} (R : Ready
   -- the line of a ride, and then what follows it
   ride-more : {list′ : List ℕ} → list′ ≡ list → {ys : List ℕ} → TurnPrints H t list′ (record { at = p .at; ride = p .ride + 1; rides = p .rides }) ys →
       TurnPrints H t list p (runLine (H .text) codes (runAt runs (getD list (p .ride) 0)) ++ ys)
-  unfolding rideLines
   ride-more l {ys} P =
       let Q : TurnPrints H t list (record { at = p .at; ride = p .ride + 1; rides = p .rides }) ys =
       subst (λ (m : List ℕ). TurnPrints H t m (record { at = p .at; ride = p .ride + 1; rides = p .rides }) ys) l P in
       let xs : List ℕ = runLine (H .text) codes (runAt runs (getD list (p .ride) 0)) in
-      let e : p .ride + 1 ≡ suc (p .ride) = omega arith in
       record {
         left = xs ++ Q .left;
-        rides = Q .rides ∙ ap (λ (k : ℕ). rideLines (H .text) codes runs list k ++ Q .left) e ∙ append-assoc (rideLines (H .text) codes runs list (p .ride)) xs (Q .left);
+        rides = Q .rides ∙ ap (λ (l : List ℕ). l ++ Q .left) (lines-more (H .text) codes runs list (p .ride)) ∙ append-assoc (rideLines (H .text) codes runs list (p .ride)) xs (Q .left);
         rest = Q .rest;
         lines = Q .lines;
         is = ap (λ (l : List ℕ). xs ++ l) (Q .is) ∙ sym (append-assoc xs (Q .left) (Q .rest));
@@ -177,8 +164,8 @@ module _ {t runs codes tables list : List ℕ} {z : Sizes} {p : Turn} (R : Ready
   line-more : {list′ : List ℕ} (i : ℕ) (y : RidesAnswer) → p .rides ≤ p .ride → pieceAt t (p .at) ≡ piece.Line i →
       LineGets (H .tables) (H .stops) (H .count) (H .runs) groundRoom (askLine (H .text) (H .codes) (H .stops) t (p .at) i) list list′ y →
       {ys : List ℕ} → TurnPrints H t list′ (record { at = i + 1; ride = 0; rides = ridesIn y }) ys → TurnPrints H t list p (headOf y ++ ys)
-  unfolding rideLines printedFor
   line-more {list′} i y le at g Q =
+      let none = lines-none (H .text) codes runs list′ in
       lines-only le
       (line i (headOf y ++ Q .left) (Q .rest) at
       (record {
@@ -186,7 +173,7 @@ module _ {t runs codes tables list : List ℕ} {z : Sizes} {p : Turn} (R : Ready
         list = list′;
         gets = gets-lent (H .tables) (H .stops) (H .count) (H .runs) groundRoom (askLine (H .text) (H .codes) (H .stops) t (p .at) i) list (replicate lastMinute 0) list′ y
             (R .listed ∙ sym (length-replicate {A = ℕ} lastMinute 0)) g;
-        is = ap (λ (l : List ℕ). headOf y ++ l) (sym (Q .rides));
+        is = ap (λ (l : List ℕ). headOf y ++ l) (sym (Q .rides ∙ ap (λ (l : List ℕ). l ++ Q .left) none)) ∙ sym (printed-is (H .text) codes runs list′ y);
       })
       (Q .lines) (ap (λ (l : List ℕ). headOf y ++ l) (Q .is) ∙ sym (append-assoc (headOf y) (Q .left) (Q .rest))))
 
@@ -221,18 +208,17 @@ module _ {t runs codes tables list : List ℕ} {z : Sizes} {p : Turn} (R : Ready
   -- the line of a ride comes first,
   ride-first : p .ride < p .rides → {list′ : List ℕ} → list′ ≡ list → {xs : List ℕ} → TurnPrints H t list p xs →
       (ys : List ℕ) × TurnPrints H t list′ (record { at = p .at; ride = p .ride + 1; rides = p .rides }) ys × (xs ≡ runLine (H .text) codes (runAt runs (getD list (p .ride) 0)) ++ ys)
-  unfolding rideLines
   ride-first lt l {xs} P =
-      let m = rides-on (H .text) codes runs list (p .rides - suc (p .ride)) (suc (p .ride)) in
-      let e : p .rides - suc (p .ride) + suc (p .ride) ≡ p .rides = omega arith in
-      let f : suc (p .ride) ≡ p .ride + 1 = omega arith in
+      let m = lines-on (H .text) codes runs list (p .rides - (p .ride + 1)) (p .ride + 1) in
+      let e : p .rides - (p .ride + 1) + (p .ride + 1) ≡ p .rides = omega arith in
       let r = runLine (H .text) codes (runAt runs (getD list (p .ride) 0)) in
       let a = rideLines (H .text) codes runs list in
-      let g : a (p .rides) ≡ a (suc (p .ride)) ++ m .0 = ap a (sym e) ∙ m .1 in
-      let left : P .left ≡ r ++ m .0 = append-one (a (p .ride)) (sym (P .rides) ∙ g ∙ append-assoc (a (p .ride)) r (m .0)) in (
+      let g : a (p .rides) ≡ a (p .ride + 1) ++ m .0 = ap a (sym e) ∙ m .1 in
+      let left : P .left ≡ r ++ m .0 =
+      append-one (a (p .ride)) (sym (P .rides) ∙ g ∙ ap (λ (i : List ℕ). i ++ m .0) (lines-more (H .text) codes runs list (p .ride)) ∙ append-assoc (a (p .ride)) r (m .0)) in (
         m .0 ++ P .rest,
         subst (λ (i : List ℕ). TurnPrints H t i (record { at = p .at; ride = p .ride + 1; rides = p .rides }) (m .0 ++ P .rest)) (sym l)
-            (record { left = m .0; rides = g ∙ ap (λ (k : ℕ). a k ++ m .0) f; rest = P .rest; lines = P .lines; is = refl }),
+            (record { left = m .0; rides = g; rest = P .rest; lines = P .lines; is = refl }),
         P .is ∙ ap (λ (i : List ℕ). i ++ P .rest) left ∙ append-assoc r (m .0) (P .rest),
       )
 
@@ -240,7 +226,6 @@ module _ {t runs codes tables list : List ℕ} {z : Sizes} {p : Turn} (R : Ready
   line-first : {list′ : List ℕ} (i : ℕ) (y : RidesAnswer) → pieceAt t (p .at) ≡ piece.Line i →
       LineGets (H .tables) (H .stops) (H .count) (H .runs) groundRoom (askLine (H .text) (H .codes) (H .stops) t (p .at) i) list list′ y →
       {xs : List ℕ} → LinesPrint (LinePrints H t) t (p .at) xs → (ys : List ℕ) × TurnPrints H t list′ (record { at = i + 1; ride = 0; rides = ridesIn y }) ys × (xs ≡ headOf y ++ ys)
-  unfolding rideLines printedFor
   line-first i y at g (none at′ is) = let k : _≡_ {A = ℕ} 0 1 = let j = sym at ∙ at′ in cc in absurd (omega arith)
   line-first i y at g (unfinished at′ is) = let k : _≡_ {A = ℕ} 0 1 = let j = sym at ∙ at′ in cc in absurd (omega arith)
   line-first {list′} i y at g (line i′ ys zs at′ f rest is) =
@@ -252,8 +237,8 @@ module _ {t runs codes tables list : List ℕ} {z : Sizes} {p : Turn} (R : Ready
       (gets-lent (H .tables) (H .stops) (H .count) (H .runs) groundRoom (read i) list (replicate lastMinute 0) list′ y (R .listed ∙ sym (length-replicate {A = ℕ} lastMinute 0)) g) in
       let m = rideLines (H .text) codes runs list′ (ridesIn y) in (
         m ++ zs,
-        record { left = m; rides = refl; rest = zs; lines = subst (λ (k : ℕ). LinesPrint (LinePrints H t) t (k + 1) zs) e rest; is = refl },
-        is ∙ ap (λ (l : List ℕ). l ++ zs) (f .is ∙ ap₂ (λ (l : List ℕ) (a : RidesAnswer). headOf a ++ rideLines (H .text) codes runs l (ridesIn a)) (o .1) (o .0)) ∙ append-assoc (headOf y) m zs,
+        record { left = m; rides = ap (λ (l : List ℕ). l ++ m) (sym (lines-none (H .text) codes runs list′)); rest = zs; lines = subst (λ (k : ℕ). LinesPrint (LinePrints H t) t (k + 1) zs) e rest; is = refl },
+        is ∙ ap (λ (l : List ℕ). l ++ zs) (f .is ∙ printed-is (H .text) codes runs (f .list) (f .answer) ∙ ap₂ (λ (l : List ℕ) (a : RidesAnswer). headOf a ++ rideLines (H .text) codes runs l (ridesIn a)) (o .1) (o .0)) ∙ append-assoc (headOf y) m zs,
       )
 
   module _ {out list′ out′ : List ℕ} {x : Step} (room : lineRoom ≤ length out) {n : ℕ} {s : Stage} (e : x ≡ Printed n s) where

@@ -1,17 +1,16 @@
 -- Demands 2 and 3, each with its own hypotheses and its own conclusion. Nothing is assumed of an ask but that it is permitted.
-use Prim.Native.Nat.{ℕ, _+_, _*_, _-_, _≤_}
+use Prim.Native.Nat.{ℕ, _-_, _≤_}
 use mathlib.Core.Path.{_≡_, refl, sym, ap, subst, _∙_}
 use mathlib.Core.List.{List, _++_}
 use native.Mathlib.Omega.{arith}
-use lib.ListN.{length, replicate}
+use lib.ListN.{replicate}
 use Rattle.kinds.specs.declared.Refusal.{Refusal}
 use Rattle.journeys.specs.AcceptedLaws.{unsupported-real, gap-real}
 use Rattle.tables.specs.declared.TablesRead.the-variants as tables
-use Rattle.tables.specs.File.{placeOf, fileRoom, tablesOf}
+use Rattle.tables.specs.File.{fileRoom, tablesOf}
 use Rattle.tables.specs.Judged.{judgedTables}
 use Rattle.tables.specs.GoodLaws.{judged-good}
 use Rattle.tables.specs.TablesLaws.{good-tables}
-use Rattle.timetable.specs.declared.Judged.the-variants as judged
 use Rattle.timetable.specs.Numbers.{serviceOf, GoodNumbers}
 use Rattle.timetable.specs.NumbersLaws.{good-service, service-stops, numbers-judged}
 use Rattle.asks.specs.Permitted.{criterionOf}
@@ -21,7 +20,7 @@ use Rattle.verdict.specs.declared.Verdict.{Verdict}
 use Rattle.verdict.specs.declared.Verdict.the-variants as verdict
 use Rattle.verdict.specs.Verdict.{Outcome, unsupported-at, gap-at, all-well, Checked}
 use Rattle.verdict.specs.VerdictLaws.{accepted-tables}
-use Rattle.rides.specs.AcceptedLaws.{enough-room}
+use Rattle.rides.specs.AcceptedLaws.{long-list}
 use Rattle.builder.specs.declared.BuildAnswer.{BuildAnswer}
 use Rattle.builder.specs.declared.BuildAnswer.the-variants as build
 use Rattle.builder.specs.Build.{buildRoom, RuleFile, BuiltOf, over, short, built, BuildOf, refused, good}
@@ -35,7 +34,7 @@ pub serves-best : {stops count : ℕ} {runs file : List ℕ} → GoodNumbers sto
 serves-best {stops} {count} {runs} {file} g s = record {
   asks = λ from to w p x f. subst (λ k. TimetableAnswers (serviceOf stops count runs) k x) (ask-permitted stops from to w p) (s .asks from to w x f);
   rides = λ from to w p lent h before after long x f.
-      enough-room (good-service g) (tablesOf file) (record { from = from; to = to; criterion = criterionOf w }) before after x long
+      long-list (good-service g) (tablesOf file) (record { from = from; to = to; criterion = criterionOf w }) before after x long
       (subst (λ k. TimetableLists (serviceOf stops count runs) (tablesOf file) k before after x) (ask-permitted stops from to w p) (s .rides lent from to w before after x h f));
 }
 

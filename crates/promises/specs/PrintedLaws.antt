@@ -10,7 +10,6 @@ use Rattle.kinds.specs.Refusals.{lineShape, stopUnknown, sameStop, minuteHigh, 
 use Rattle.kinds.specs.declared.Refusal.{Refusal}
 use Rattle.tables.specs.File.{fileRoom, tablesOf}
 use Rattle.timetable.specs.Numbers.{serviceOf, GoodNumbers}
-use Rattle.timetable.specs.NumbersLaws.{good-service}
 use Rattle.reader.specs.declared.Counts.{Counts}
 use Rattle.reader.specs.declared.ReadAnswer.the-variants as read
 use Rattle.reader.specs.Text.{answerOf, runsOf, codesOf}
@@ -22,7 +21,6 @@ use Rattle.ground.specs.Ground.{groundRoom}
 use Rattle.rides.specs.declared.RidesAnswer.{RidesAnswer}
 use Rattle.rides.specs.declared.RidesAnswer.the-variants.{At, No}
 use Rattle.rides.specs.Accepted.{GetsRides}
-use Rattle.rides.specs.AcceptedLaws.{enough-room}
 use Rattle.builder.specs.declared.BuildAnswer.the-variants as build
 use Rattle.builder.specs.Build.{buildRoom}
 use Rattle.askline.specs.declared.Ask.{Ask}
@@ -43,7 +41,7 @@ use Rattle.promises.specs.Calls.{TimetableLists, Serves}
 use Rattle.promises.specs.BuiltLaws.{build-serves}
 use Rattle.promises.specs.Demands as demands
 use Rattle.promises.specs.Demands.{Builds}
-use Rattle.promises.specs.DemandsLaws.{demand-2}
+use Rattle.promises.specs.DemandsLaws.{serves-best, demand-2}
 use Rattle.promises.specs.Printed.{LineTells, ill-shaped, unknown, same-stop, out-of-range, crossed, nothing, best, AskNumber, OutputTells, unread, too-many, asks}
 
 -- ---- one ask line
@@ -63,25 +61,24 @@ module _ (s codes : List ℕ) {stops count : ℕ} {runs file : List ℕ} (g : Go
 
   -- two known stops: 12 is not given
   asked-tells : (q : Ask) → (q .from < stops) × (q .to < stops) → {k : AskRead} → AskIs stops (q .from) (q .to) (q .wanted) k → (after : List ℕ) (y : RidesAnswer) →
+      (Permitted stops (q .from) (q .to) (q .wanted) → GetsRides (serviceOf stops count runs) (q .from) (q .to) (criterionOf (q .wanted)) before after y) →
       TimetableLists (serviceOf stops count runs) (tablesOf file) k before after y → LineTells s codes stops count runs (line.Asked q) (printedFor s codes runs after y)
-  asked-tells q known (ask.permitted p e) after y f =
-      permitted-tells q p after y
-      (enough-room (good-service g) (tablesOf file) (record { from = q .from; to = q .to; criterion = criterionOf (q .wanted) }) before after y long
-      (subst (λ i. TimetableLists (serviceOf stops count runs) (tablesOf file) i before after y) e f))
-  asked-tells q known (ask.no-stop (inl h) e) after y f = absurd (omega (arith, known .0))
-  asked-tells q known (ask.no-stop (inr h) e) after y f = absurd (omega (arith, known .1))
-  asked-tells q known (ask.same-stop h i e) after y f =
+  asked-tells q known (ask.permitted p e) after y b f = permitted-tells q p after y (b p)
+  asked-tells q known (ask.no-stop (inl h) e) after y b f = absurd (omega (arith, known .0))
+  asked-tells q known (ask.no-stop (inr h) e) after y b f = absurd (omega (arith, known .1))
+  asked-tells q known (ask.same-stop h i e) after y b f =
       same-stop q refl h i (says-no s codes runs after sameStop (subst (λ i. TimetableLists (serviceOf stops count runs) (tablesOf file) i before after y) e f .0))
-  asked-tells q known (ask.out-of-range h o e) after y f =
+  asked-tells q known (ask.out-of-range h o e) after y b f =
       out-of-range q refl h o (says-no s codes runs after minuteHigh (subst (λ i. TimetableLists (serviceOf stops count runs) (tablesOf file) i before after y) e f .0))
-  asked-tells q known (ask.crossed h r c e) after y f =
+  asked-tells q known (ask.crossed h r c e) after y b f =
       crossed q refl h r c (says-no s codes runs after minutesCrossed (subst (λ i. TimetableLists (serviceOf stops count runs) (tablesOf file) i before after y) e f .0))
 
   read-tells : (x : LineRead) → ReadAs stops x → (after : List ℕ) (y : RidesAnswer) → LineGets file stops count runs lent x before after y →
       LineTells s codes stops count runs x (printedFor s codes runs after y)
   read-tells (line.No n) (inl h) after y f = ill-shaped (ap line.No h) (says-no s codes runs after n (f .0) ∙ ap noLine h)
   read-tells (line.No n) (inr h) after y f = unknown (ap line.No h) (says-no s codes runs after n (f .0) ∙ ap noLine h)
-  read-tells (line.Asked q) h after y f = asked-tells q h (ask-is stops (q .from) (q .to) (q .wanted)) after y (F .rides lent (q .from) (q .to) (q .wanted) before after y room f)
+  read-tells (line.Asked q) h after y f =
+      asked-tells q h (ask-is stops (q .from) (q .to) (q .wanted)) after y (λ p. serves-best g F .rides (q .from) (q .to) (q .wanted) p lent room before after long y f) (F .rides lent (q .from) (q .to) (q .wanted) before after y room f)
 
   -- over a file that serves, with its rooms lent, every ask line tells the truth
   pub line-tells : (t : List ℕ) (a e : ℕ) (xs : List ℕ) → PrintedAsk s codes file stops count runs lent (askLine s codes stops t a e) before xs →

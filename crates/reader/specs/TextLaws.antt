@@ -11,13 +11,13 @@ use lib.Dec.{ltb, leb}
 use borrow.Author.Tests.{ltb-false, leb-false}
 use Rattle.loops.specs.Chain.{past, stays}
 use Rattle.loops.specs.PutLaws.{put-length, put-before, put-after, put-at}
-use Rattle.kinds.specs.Limits.{mostStops, mostRuns, mostText, runNumbers, runsRoom, codesRoom}
+use Rattle.kinds.specs.Limits.{mostText, runNumbers, runsRoom, codesRoom}
 use Rattle.kinds.specs.Kinds.{GoodRun}
 use Rattle.kinds.specs.declared.Code.{Code}
 use Rattle.kinds.specs.declared.Run.{Run}
 use Rattle.words.specs.Words.{lf, seek, beginsB, isCode}
 use Rattle.words.specs.WordsLaws.{seek-low, seek-high, begins-long}
-use Rattle.lookup.specs.Lookup.{startOf, lengthOf, hasCode, putCode, Placed}
+use Rattle.lookup.specs.Lookup.{startOf, lengthOf, hasCode, putCode}
 use Rattle.lookup.specs.LookupLaws.{named-none, has-kept, code-length, start-put, length-put, start-kept, length-kept, placed-more}
 use Rattle.lines.specs.Lines.{lineOf}
 use Rattle.lines.specs.LinesLaws.{FineStop, FineRun, FineLine, line-fine}

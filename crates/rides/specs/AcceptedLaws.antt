@@ -76,11 +76,11 @@ accepted-lists b stops count runs lent from to w q before after x ok e L =
     truly-lists (good-service (A .numbers)) (good-tables (A .file)) (tables-stops b ∙ A .file .room .contents .stops ∙ sym (service-stops stops count runs)) ok q (A .good .apart) before after x L
 
 -- a list of 2,879 numbers is long enough for every journey: then 17 is not given
-pub enough-room : {S : Service} → GoodService S → (T : Tables) (q : Asked) (before after : List ℕ) (x : RidesAnswer) → lastMinute ≤ length before →
+pub long-list : {S : Service} → GoodService S → (T : Tables) (q : Asked) (before after : List ℕ) (x : RidesAnswer) → lastMinute ≤ length before →
     TrulyLists S T q before after x → GetsRides S (q .from) (q .to) (q .criterion) before after x
-enough-room D T q before after (At j) h L = L .listed
-enough-room D T q before after (No r) h (truly.no-journey e n, z) = (e, n, z)
-enough-room D T q before after (No r) h (truly.short e d a B l C lt, z) = absurd (omega (arith, rides-few D (chosen-journey C)))
+long-list D T q before after (At j) h L = L .listed
+long-list D T q before after (No r) h (truly.no-journey e n, z) = (e, n, z)
+long-list D T q before after (No r) h (truly.short e d a B l C lt, z) = absurd (omega (arith, rides-few D (chosen-journey C)))
 
 -- no second answer and no second list are the timetable's
 module _ (S : Service) {T : Tables} (G : GoodTables T) (q : Asked) where
