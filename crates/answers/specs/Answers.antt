@@ -1,30 +1,30 @@
 -- What an ask line gets, and what is printed for it. The timetable text is s; the reader left the codes' places, the stop count, the run count and
 -- the runs' numbers; b are the bytes of the tables.
-use Prim.Native.Nat.{ℕ, zero, suc, _+_, _*_, _≤_, _<_}
+use Prim.Native.Nat.{ℕ, zero, suc, _+_, _<_}
 use mathlib.Core.Path.{_≡_}
 use mathlib.Core.List.{List, [], _++_}
 use lib.ListN.{length, getD}
 use Rattle.loops.specs.Zero.{zeros}
 use Rattle.kinds.specs.Refusals.{refusal}
-use Rattle.kinds.specs.declared.Code.{Code}
 use Rattle.kinds.specs.declared.Run.{Run}
 use Rattle.tables.specs.File.{tablesOf}
-use Rattle.timetable.specs.Numbers.{runAt, serviceOf, GoodRunAt}
-use Rattle.lookup.specs.Lookup.{startOf, lengthOf}
+use Rattle.timetable.specs.declared.Given.{Given}
+use Rattle.timetable.specs.Numbers.{runAt, GoodRunAt}
+use Rattle.timetable.specs.Slots.{serviceOf}
+use Rattle.lookup.specs.Lookup.{codeAt, Named}
 use Rattle.rides.specs.declared.RidesAnswer.{RidesAnswer}
 use Rattle.rides.specs.declared.RidesAnswer.the-variants.{At, No}
 use Rattle.rides.specs.Lists.{ridesAsked, Lists}
 use Rattle.askline.specs.declared.LineRead.{LineRead}
 use Rattle.askline.specs.declared.LineRead.the-variants as line
 use Rattle.printed.specs.Printed.{atLine, rideLine, noLine}
-use Rattle.printed.specs.Wrote.{CodeIn}
 
 -- "An ill-shaped ask .. is "no 2"; after that an unknown code is "no 5"." Any other line gets what the ask with rides gets, of which the list
 -- that held `before` then holds `after`; a refusal leaves zeros.
-abbrev pub LineGets : List ℕ → ℕ → ℕ → List ℕ → ℕ → LineRead → List ℕ → List ℕ → RidesAnswer → Type 0
-LineGets b stops count runs lent (line.No n) before after x = (x ≡ No (refusal n 0)) × (after ≡ zeros before)
-LineGets b stops count runs lent (line.Asked q) before after x =
-    Lists (serviceOf stops count runs) (tablesOf b) (ridesAsked b stops count runs lent (q .from) (q .to) (q .wanted)) before after x
+abbrev pub LineGets : List ℕ → Given → List ℕ → ℕ → LineRead → List ℕ → List ℕ → RidesAnswer → Type 0
+LineGets b given runs lent (line.No n) before after x = (x ≡ No (refusal n 0)) × (after ≡ zeros before)
+LineGets b given runs lent (line.Asked q) before after x =
+    Lists (serviceOf given runs) (tablesOf b) (ridesAsked b given runs lent (q .from) (q .to) (q .wanted)) before after x
 
 -- the first line: ""at" gives departure, arrival, number of rides", ""no" gives the number"
 abbrev pub headOf : RidesAnswer → List ℕ
@@ -36,34 +36,25 @@ abbrev pub ridesIn : RidesAnswer → ℕ
 ridesIn (At j) = j .rides
 ridesIn (No r) = 0
 
--- where the code of stop j stands
-abbrev pub codeAt : List ℕ → ℕ → Code
-codeAt codes j = record { start = startOf codes j; length = lengthOf codes j }
-
 -- the line of a run: ""ride" gives codes, minutes, trip"
-abbrev pub runLine : List ℕ → List ℕ → Run → List ℕ
-runLine s codes r = rideLine s (codeAt codes (r .from)) (codeAt codes (r .to)) (r .dep) (r .arr) (r .trip)
+abbrev pub rideLineOf : List ℕ → List ℕ → Run → List ℕ
+rideLineOf s codes r = rideLine s (codeAt codes (r .from)) (codeAt codes (r .to)) (r .dep) (r .arr) (r .trip)
 
 -- "A ride is listed as its run number": the lines of the first k listed rides, in their order
 unfoldable pub rideLines : List ℕ → List ℕ → List ℕ → List ℕ → ℕ → List ℕ
 rideLines s codes runs list zero = []
-rideLines s codes runs list (suc k) = rideLines s codes runs list k ++ runLine s codes (runAt runs (getD list k 0))
+rideLines s codes runs list (suc k) = rideLines s codes runs list k ++ rideLineOf s codes (runAt runs (getD list k 0))
 
 -- all that is printed for an answer
 unfoldable pub printedFor : List ℕ → List ℕ → List ℕ → List ℕ → RidesAnswer → List ℕ
 printedFor s codes runs list x = headOf x ++ rideLines s codes runs list (ridesIn x)
 
 -- xs is what the line prints; the list of rides and the working room are as long as lent
-pub record PrintedAsk (s codes : List ℕ) (b : List ℕ) (stops count : ℕ) (runs : List ℕ) (lent : ℕ) (read : LineRead) (before xs : List ℕ) : Type 0 where
+pub record PrintedAsk (s codes : List ℕ) (b : List ℕ) (given : Given) (runs : List ℕ) (lent : ℕ) (read : LineRead) (before xs : List ℕ) : Type 0 where
   pub answer : RidesAnswer
   pub list : List ℕ
-  pub gets : LineGets b stops count runs lent read before list answer
+  pub gets : LineGets b given runs lent read before list answer
   pub is : xs ≡ printedFor s codes runs list answer
-
--- the code of stop j is in the list and stands in the text
-pub record Named (s codes : List ℕ) (j : ℕ) : Type 0 where
-  pub listed : 2 * j + 2 ≤ length codes
-  pub code : CodeIn s (codeAt codes j)
 
 -- ride k of the list is a good run, and its stops have codes
 pub record Ridden (s codes runs list : List ℕ) (k : ℕ) : Type 0 where

@@ -1,9 +1,11 @@
 -- An ask line: "early FROM TO T", "late FROM TO T", "short FROM TO T T2". The line is the stretch of the input t from a up to e, where its LF stands.
 use Prim.Native.Nat.{ℕ, _+_, _-_}
-use mathlib.Core.List.{List, [], _∷_}
+use mathlib.Core.List.{List}
 use mathlib.Core.Bool.{cond}
+use lib.ListN.{length}
 use lib.Dec.{ltb, leb}
 use Rattle.kinds.specs.Refusals.{lineShape, stopUnknown}
+use Rattle.words.specs.Bytes.{bytes}
 use Rattle.words.specs.Words.{space, seek, beginsB, numberAt}
 use Rattle.words.specs.declared.Number.{Number}
 use Rattle.words.specs.declared.NumberRead.{NumberRead}
@@ -62,21 +64,21 @@ shapeAt word t a e =
     (cond (leb e second) shape.Bad
     (shaped (record { at = a; end = first }) (record { at = first + 1; end = second }) (minutesAt word t (second + 1) e)))
 
--- "early ", "late ", "short "
+-- what an ask begins with
 abbrev pub earlyWord : List ℕ
-earlyWord = 101 ∷ 97 ∷ 114 ∷ 108 ∷ 121 ∷ 32 ∷ []
+earlyWord = bytes "early "
 
 abbrev pub lateWord : List ℕ
-lateWord = 108 ∷ 97 ∷ 116 ∷ 101 ∷ 32 ∷ []
+lateWord = bytes "late "
 
 abbrev pub shortWord : List ℕ
-shortWord = 115 ∷ 104 ∷ 111 ∷ 114 ∷ 116 ∷ 32 ∷ []
+shortWord = bytes "short "
 
 unfoldable pub shapeOf : List ℕ → ℕ → ℕ → ShapeRead
 shapeOf t a e =
-    cond (beginsB t a e earlyWord) (shapeAt Early t (a + 6) e)
-    (cond (beginsB t a e lateWord) (shapeAt Late t (a + 5) e)
-    (cond (beginsB t a e shortWord) (shapeAt Short t (a + 6) e)
+    cond (beginsB t a e earlyWord) (shapeAt Early t (a + length earlyWord) e)
+    (cond (beginsB t a e lateWord) (shapeAt Late t (a + length lateWord) e)
+    (cond (beginsB t a e shortWord) (shapeAt Short t (a + length shortWord) e)
     shape.Bad))
 
 -- the stop that a field names, by its code in the timetable text s

@@ -3,18 +3,19 @@ use Prim.Native.Nat.{ℕ, _+_, _≤_, _<_}
 use mathlib.Core.Path.{_≡_, refl}
 use mathlib.Core.List.{List}
 use mathlib.Core.Bool.{Bool, true, false, cond}
-use mathlib.Core.Logic.{_⊎_, inl, inr}
+use mathlib.Core.Logic.{inl, inr}
 use native.Mathlib.Omega.{arith}
 use lib.ListN.{length}
 use lib.Dec.{leb}
 use borrow.Author.Tests.{leb-false}
-use Rattle.loops.specs.Chain.{past}
-use Rattle.kinds.specs.Refusals.{lineShape, stopUnknown}
+use Rattle.loops.specs.ChainLaws.{past}
+use Rattle.kinds.specs.Refusals.{stopUnknown}
 use Rattle.words.specs.Words.{space, seek, beginsB}
 use Rattle.words.specs.WordsLaws.{seek-low}
 use Rattle.lines.specs.declared.Field.{Field}
 use Rattle.asks.specs.declared.Wanted.{Wanted}
 use Rattle.askline.specs.AskLine.{minutesAt, shaped, shapeAt, earlyWord, lateWord, shortWord, shapeOf, namedBy, askOf, askLine}
+use Rattle.askline.specs.Shapes.{ShapeWithin, ReadAs}
 use Rattle.askline.specs.declared.Word.{Word}
 use Rattle.askline.specs.declared.Word.the-variants.{Early, Late, Short}
 use Rattle.askline.specs.declared.GivenRead.{GivenRead}
@@ -22,15 +23,7 @@ use Rattle.askline.specs.declared.GivenRead.the-variants as given
 use Rattle.askline.specs.declared.Shape.{Shape}
 use Rattle.askline.specs.declared.ShapeRead.{ShapeRead}
 use Rattle.askline.specs.declared.ShapeRead.the-variants as shape
-use Rattle.askline.specs.declared.LineRead.{LineRead}
 use Rattle.askline.specs.declared.LineRead.the-variants.{Asked, No}
-
--- FROM and TO stand in the input
-pub record ShapeWithin (t : List ℕ) (f : Shape) : Type 0 where
-  pub from-low : f .from .at ≤ f .from .end
-  pub from-high : f .from .end ≤ length t
-  pub to-low : f .to .at ≤ f .to .end
-  pub to-high : f .to .end ≤ length t
 
 shaped-good : (from to : Field) (x : GivenRead) (f : Shape) → shaped from to x ≡ shape.Good f → (f .from ≡ from) × (f .to ≡ to)
 shaped-good from to (given.Good w) f h = (cc, cc)
@@ -56,26 +49,16 @@ at-within word t a e f h high =
 
 pub shape-within : (t : List ℕ) (a e : ℕ) (f : Shape) → shapeOf t a e ≡ shape.Good f → e ≤ length t → ShapeWithin t f
 unfolding shapeOf
-shape-within t a e f h high = one (beginsB t a e earlyWord) h
+shape-within t a e f h high =
+    elim-test (beginsB t a e earlyWord) h (at-within Early t (a + length earlyWord) e f)
+    (λ g₁. elim-test (beginsB t a e lateWord) g₁ (at-within Late t (a + length lateWord) e f)
+    (λ g₂. elim-test (beginsB t a e shortWord) g₂ (at-within Short t (a + length shortWord) e f)
+    (λ g₃. absurd (let y : _≡_ {A = ℕ} 0 1 = cc in omega arith))))
   where
-    three : (b : Bool) → cond b (shapeAt Short t (a + 6) e) shape.Bad ≡ shape.Good f → ShapeWithin t f
-    three true g = at-within Short t (a + 6) e f g high
-    three false g = absurd (let y : _≡_ {A = ℕ} 0 1 = cc in omega arith)
-
-    two : (b : Bool) → cond b (shapeAt Late t (a + 5) e) (cond (beginsB t a e shortWord) (shapeAt Short t (a + 6) e) shape.Bad) ≡ shape.Good f → ShapeWithin t f
-    two true g = at-within Late t (a + 5) e f g high
-    two false g = three (beginsB t a e shortWord) g
-
-    one : (b : Bool) →
-        cond b (shapeAt Early t (a + 6) e) (cond (beginsB t a e lateWord) (shapeAt Late t (a + 5) e) (cond (beginsB t a e shortWord) (shapeAt Short t (a + 6) e) shape.Bad)) ≡ shape.Good f →
-        ShapeWithin t f
-    one true g = at-within Early t (a + 6) e f g high
-    one false g = two (beginsB t a e lateWord) g
-
--- what a line is read as: an ask of two stops, or refused by 2 or by 5
-abbrev pub ReadAs : ℕ → LineRead → Type 0
-ReadAs stops (Asked q) = (q .from < stops) × (q .to < stops)
-ReadAs stops (No n) = (n ≡ lineShape) ⊎ (n ≡ stopUnknown)
+    elim-test : (b : Bool) {x y : ShapeRead} → cond b x y ≡ shape.Good f → (x ≡ shape.Good f → e ≤ length t → ShapeWithin t f) →
+        (y ≡ shape.Good f → ShapeWithin t f) → ShapeWithin t f
+    elim-test true g yes-it no-it = yes-it g high
+    elim-test false g yes-it no-it = no-it g
 
 pub line-read : (s codes : List ℕ) (stops : ℕ) (t : List ℕ) (a e : ℕ) → ReadAs stops (askLine s codes stops t a e)
 unfolding askLine
@@ -90,5 +73,6 @@ line-read s codes stops t a e = from-shape (shapeOf t a e)
     from-shape : (x : ShapeRead) → ReadAs stops (askOf s codes stops t x)
     from-shape shape.Bad = inl refl
     from-shape (shape.Good f) =
-        from-stops (namedBy s codes stops t (f .from)) (namedBy s codes stops t (f .to)) (f .wanted) (leb stops (namedBy s codes stops t (f .from))) (leb stops (namedBy s codes stops t (f .to)))
-        (leb-false stops (namedBy s codes stops t (f .from))) (leb-false stops (namedBy s codes stops t (f .to)))
+        let from : ℕ = namedBy s codes stops t (f .from) in
+        let to : ℕ = namedBy s codes stops t (f .to) in
+        from-stops from to (f .wanted) (leb stops from) (leb stops to) (leb-false stops from) (leb-false stops to)

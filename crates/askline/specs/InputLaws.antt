@@ -7,11 +7,12 @@ use native.Mathlib.Omega.{arith}
 use lib.ListN.{length}
 use lib.Dec.{leb}
 use borrow.Author.Tests.{le-leb, lt-leb, leb-false}
-use Rattle.loops.specs.Chain.{past}
+use Rattle.loops.specs.ChainLaws.{past}
 use Rattle.words.specs.Words.{lf, seek, isWordB}
 use Rattle.words.specs.WordsLaws.{seek-end, seek-low}
 use Rattle.lines.specs.Lines.{endWord}
 use Rattle.askline.specs.Input.{endFrom, timetableEnd, pieceAt}
+use Rattle.askline.specs.Ending.{Ending}
 use Rattle.askline.specs.declared.Piece.the-variants.{Line}
 
 -- one line, where f lasts for the bytes that are left
@@ -22,13 +23,6 @@ opened : (f : ℕ) (t : List ℕ) (a : ℕ) → a ≤ length t → length t ≤ 
 unfolding endFrom
 opened zero t a h l = rw (seek-end lf t a (length t) (omega arith), le-leb (length t) a (omega arith))
 opened (suc f) t a h l = let e : suc f - 1 ≡ f = omega arith in rw e
-
--- the loop stands at a: what is still to be sought gives the whole answer
-pub record Ending (t : List ℕ) (a : ℕ) : Type 0 where
-  pub fuel : ℕ
-  pub rest : timetableEnd t ≡ endFrom fuel t a
-  pub within : a ≤ length t
-  pub enough : length t ≤ fuel + a
 
 pub ending-none : (t : List ℕ) → Ending t 0
 unfolding timetableEnd
@@ -58,7 +52,9 @@ module _ {t : List ℕ} {a : ℕ} (r : Ending t a) (e : ℕ) (at : e ≡ seek lf
 end-within : (f : ℕ) (t : List ℕ) (a : ℕ) → endFrom f t a ≤ length t
 unfolding endFrom
 end-within zero t a = omega arith
-end-within (suc f) t a = go (leb (length t) (seek lf t a (length t))) (leb-false (length t) (seek lf t a (length t))) (isWordB t a (seek lf t a (length t)) endWord) (end-within f t (seek lf t a (length t) + 1))
+end-within (suc f) t a =
+    let e : ℕ = seek lf t a (length t) in
+    go (leb (length t) e) (leb-false (length t) e) (isWordB t a e endWord) (end-within f t (e + 1))
   where
     go : (x : Bool) → (x ≡ false → seek lf t a (length t) < length t) → (y : Bool) → endFrom f t (seek lf t a (length t) + 1) ≤ length t →
         cond x (length t) (cond y (seek lf t a (length t) + 1) (endFrom f t (seek lf t a (length t) + 1))) ≤ length t

@@ -36,7 +36,8 @@ ifMinute minute.Bad f = minutes.No minuteHigh
 unfoldable pub minutesRead : Wanted → MinutesRead
 minutesRead (wanted.Early t) = ifMinute (minuteOf t) (λ m. minutes.Good (Early m))
 minutesRead (wanted.Late t) = ifMinute (minuteOf t) (λ m. minutes.Good (Late m))
-minutesRead (wanted.Short t t2) = ifMinute (minuteOf t) (λ m. ifMinute (minuteOf t2) (λ m2. cond (ltb m2 m) (minutes.No minutesCrossed) (minutes.Good (Short m m2))))
+minutesRead (wanted.Short t t2) =
+    ifMinute (minuteOf t) (λ m. ifMinute (minuteOf t2) (λ m2. cond (ltb m2 m) (minutes.No minutesCrossed) (minutes.Good (Short m m2))))
 
 -- 12 "stop not below n", 13 "same stop twice", and those of the minutes
 abbrev pub ifStop : StopRead → (ℕ → AskRead) → AskRead

@@ -1,5 +1,7 @@
 -- The best pair found so far among a set of pairs, and taking one pair more.
 use Prim.Native.Nat.{ℕ, _+_}
+use mathlib.Core.Path.{_≡_}
+use mathlib.Core.Logic.{_⊎_}
 use mathlib.Core.Bool.{Bool, true, false, cond}
 use lib.Dec.{ltb, leb, eqb}
 use Rattle.journeys.specs.declared.Criterion.{Criterion}
@@ -12,6 +14,10 @@ use Rattle.asks.specs.declared.Found.the-variants as found
 abbrev pub FoundIn : (ℕ → ℕ → Type 0) → Criterion → Found → Type 0
 FoundIn P c (found.Pair j) = Best P c (j .dep) (j .arr)
 FoundIn P c found.Nothing = Nothing P c
+
+-- the set with one pair more
+abbrev pub Plus : (ℕ → ℕ → Type 0) → ℕ → ℕ → ℕ → ℕ → Type 0
+Plus P d a e b = P e b ⊎ ((e ≡ d) × (b ≡ a))
 
 -- the tests of a criterion: does a pair fit, is (d, a) better than (e, b)
 unfoldable pub fitsB : Criterion → ℕ → ℕ → Bool

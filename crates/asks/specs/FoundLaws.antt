@@ -15,7 +15,7 @@ use Rattle.journeys.specs.Journey.{Within}
 use Rattle.asks.specs.declared.Journey.{Journey}
 use Rattle.asks.specs.declared.Found.{Found}
 use Rattle.asks.specs.declared.Found.the-variants as found
-use Rattle.asks.specs.Found.{FoundIn, fitsB, aheadB, betterB, pair, against, taken}
+use Rattle.asks.specs.Found.{FoundIn, Plus, fitsB, aheadB, betterB, pair, against, taken}
 
 -- what the tests say
 fits-true : (c : Criterion) (d a : ℕ) → fitsB c d a ≡ true → Fits c d a
@@ -38,7 +38,7 @@ fits-false (Short t t2) d a e f = go (leb t d) (leb-false t d) e
     go true g q = omega (arith, leb-false a t2 q, f .1)
     go false g q = omega (arith, g refl, f .0)
 
-pub ahead-true : (x y : ℕ) (tie : Bool) → aheadB x y tie ≡ true → (x < y) ⊎ ((x ≡ y) × (tie ≡ true))
+ahead-true : (x y : ℕ) (tie : Bool) → aheadB x y tie ≡ true → (x < y) ⊎ ((x ≡ y) × (tie ≡ true))
 unfolding aheadB
 ahead-true x y tie e = go (ltb x y) (eqb x y) (ltb-true x y) (eqb-true x y) e
   where
@@ -47,7 +47,7 @@ ahead-true x y tie e = go (ltb x y) (eqb x y) (ltb-true x y) (eqb-true x y) e
     go false true f g q = inr (g refl, q)
     go false false f g q = let z : _≡_ {A = ℕ} 0 1 = cc in absurd (omega arith)
 
-pub ahead-false : (x y : ℕ) (tie : Bool) → aheadB x y tie ≡ false → (y ≤ x) × (x ≡ y → tie ≡ false)
+ahead-false : (x y : ℕ) (tie : Bool) → aheadB x y tie ≡ false → (y ≤ x) × (x ≡ y → tie ≡ false)
 unfolding aheadB
 ahead-false x y tie e = go (ltb x y) (eqb x y) (ltb-false x y) (eqb-false x y) e
   where
@@ -68,10 +68,6 @@ better-false (Late t) d a e b q (inl h) = omega (arith, ahead-false e d (ltb a b
 better-false (Late t) d a e b q (inr h) = omega (arith, ltb-false a b (ahead-false e d (ltb a b) q .1 (sym (h .0))))
 better-false (Short t t2) d a e b q (inl h) = omega (arith, ahead-false (a + e) (b + d) (ltb d e) q .0)
 better-false (Short t t2) d a e b q (inr h) = omega (arith, ltb-false d e (ahead-false (a + e) (b + d) (ltb d e) q .1 (h .0)))
-
--- the set with one pair more
-abbrev pub Plus : (ℕ → ℕ → Type 0) → ℕ → ℕ → ℕ → ℕ → Type 0
-Plus P d a e b = P e b ⊎ ((e ≡ d) × (b ≡ a))
 
 module _ (P : ℕ → ℕ → Type 0) (c : Criterion) (d a : ℕ) where
   -- a pair that does not fit changes nothing
@@ -112,7 +108,8 @@ module _ (P : ℕ → ℕ → Type 0) (c : Criterion) (d a : ℕ) where
   against-found : (best : Found) → Fits c d a → FoundIn P c best → FoundIn (Plus P d a) c (against c d a best)
   against-found (found.Pair j) h f = go (betterB c d a (j .dep) (j .arr)) (better-true c d a (j .dep) (j .arr)) (better-false c d a (j .dep) (j .arr))
     where
-      go : (t : Bool) → (t ≡ true → Better c d a (j .dep) (j .arr)) → (t ≡ false → ¬ (Better c d a (j .dep) (j .arr))) → FoundIn (Plus P d a) c (cond t (pair d a) (found.Pair j))
+      go : (t : Bool) → (t ≡ true → Better c d a (j .dep) (j .arr)) → (t ≡ false → ¬ (Better c d a (j .dep) (j .arr))) →
+          FoundIn (Plus P d a) c (cond t (pair d a) (found.Pair j))
       go true y n = newer j h (y refl) f
       go false y n = older j (n refl) f
   against-found found.Nothing h f = alone h f
@@ -126,11 +123,13 @@ module _ (P : ℕ → ℕ → Type 0) (c : Criterion) (d a : ℕ) where
       go false y n = unfit best (n refl) f
 
 -- sets with the same pairs
-pub found-same : (P Q : ℕ → ℕ → Type 0) (c : Criterion) → ((d a : ℕ) → P d a → Q d a) → ((d a : ℕ) → Q d a → P d a) → (best : Found) → FoundIn P c best → FoundIn Q c best
+pub found-same : (P Q : ℕ → ℕ → Type 0) (c : Criterion) → ((d a : ℕ) → P d a → Q d a) → ((d a : ℕ) → Q d a → P d a) →
+    (best : Found) → FoundIn P c best → FoundIn Q c best
 found-same P Q c to back (found.Pair j) f = record { has = to (j .dep) (j .arr) (f .has); fits = f .fits; top = λ e b q. f .top e b (back e b q) }
 found-same P Q c to back found.Nothing f = λ e b q. f e b (back e b q)
 
 -- sets of which one is part of the other and weakly dominates it
-pub found-over : (P Q : ℕ → ℕ → Type 0) (c : Criterion) → ((d a : ℕ) → P d a → Q d a) → ((d a : ℕ) → Q d a → Within P d a) → (best : Found) → FoundIn P c best → FoundIn Q c best
+pub found-over : (P Q : ℕ → ℕ → Type 0) (c : Criterion) → ((d a : ℕ) → P d a → Q d a) → ((d a : ℕ) → Q d a → Within P d a) →
+    (best : Found) → FoundIn P c best → FoundIn Q c best
 found-over P Q c to back (found.Pair j) f = best-up P Q to back c f
 found-over P Q c to back found.Nothing f = nothing-same P Q to back c .0 f

@@ -6,5 +6,6 @@ pub mod Join
 pub mod JoinLaws
 pub mod Asks
 pub mod Permitted
+pub mod Reasons
 pub mod PermittedLaws
 pub mod AskLaws

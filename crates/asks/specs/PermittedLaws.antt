@@ -16,6 +16,7 @@ use Rattle.asks.specs.declared.AskRead.the-variants as ask
 use Rattle.asks.specs.declared.MinutesRead.the-variants as minutes
 use Rattle.asks.specs.Asks.{ifMinutes, minutesRead, askRead, TwoStops}
 use Rattle.asks.specs.Permitted.{criterionOf, InRange, OutOfRange, Crossed, Permitted, AskIs, permitted, no-stop, same-stop, out-of-range, crossed}
+use Rattle.asks.specs.Reasons.{Reasons}
 
 -- ---- the minutes: in range and in order; over the last one; or crossed
 
@@ -128,19 +129,17 @@ number-of (ask.No r) = r .number
 other : {A : Type 0} {k m r : ℕ} → r ≡ k → ¬ (k ≡ m) → r ≡ m → A
 other e d f = absurd (d (sym e ∙ f))
 
--- the reasons of a refusal with this number
-record Reasons (n from to : ℕ) (w : Wanted) (k : ℕ) : Type 0 where
-  twelve : k ≡ stopHigh → (n ≤ from) ⊎ (n ≤ to)
-  thirteen : k ≡ sameStop → (from < n) × (from ≡ to)
-  fourteen : k ≡ minuteHigh → TwoStops n from to × OutOfRange w
-  fifteen : k ≡ minutesCrossed → TwoStops n from to × InRange w × Crossed w
-
 module _ (n from to : ℕ) (w : Wanted) where
   reasons : {x : AskRead} → AskIs n from to w x → Reasons n from to w (number-of x)
   unfolding number-of
   reasons (permitted p e) =
       let f = ap number-of e in
-      record { twelve = other f (λ g. omega arith); thirteen = other f (λ g. omega arith); fourteen = other f (λ g. omega arith); fifteen = other f (λ g. omega arith) }
+      record {
+        twelve = other f (λ g. omega arith);
+        thirteen = other f (λ g. omega arith);
+        fourteen = other f (λ g. omega arith);
+        fifteen = other f (λ g. omega arith);
+      }
   reasons (no-stop h e) =
       let f = ap number-of e in
       record { twelve = λ g. h; thirteen = other f (λ g. omega arith); fourteen = other f (λ g. omega arith); fifteen = other f (λ g. omega arith) }

@@ -6,21 +6,20 @@ use kinds::MinuteRead;
 use kinds::Refusal;
 use kinds::Stop;
 use kinds::StopRead;
+use label_sets::Moment;
 use tables::TablesRead;
 ghost use mathlib.Core.Path.{_≡_};
-ghost use Prim.Native.Nat.{ℕ, _+_, _≤_, _<_};
-ghost use Rattle.loops.specs.First.{FirstAt};
+ghost use Prim.Native.Nat.{ℕ, _+_, _≤_};
 ghost use Rattle.kinds.specs.Limits.{mostStops};
 ghost use Rattle.journeys.specs.Tables.{outs, ins, Sketch};
-ghost use Rattle.tables.specs.File.{tablesOf, labelsOf};
-ghost use Rattle.tables.specs.Good.{Room};
+ghost use Rattle.tables.specs.File.{tablesOf};
 ghost use Rattle.asks.specs.Found.{FoundIn, fitsB, aheadB, betterB, against, taken};
-ghost use Rattle.asks.specs.Candidates.{Past, FromOuts};
+ghost use Rattle.asks.specs.Candidates.{FromOuts};
 ghost use Rattle.tables.specs.Good.{GoodFile};
 ghost use Rattle.asks.specs.declared.AskRead.the-variants as ask;
 ghost use Rattle.asks.specs.declared.Wanted.the-variants as wanted;
 ghost use Rattle.asks.specs.Asks.{minutesRead, askRead, asked, Answers, GoodAsk};
-ghost use Rattle.asks.specs.Join.{Sets, pastB, OutTurn, OutsTo, InsTo, inTurn};
+ghost use Rattle.asks.specs.Join.{Sets, OutTurn, OutsDone, InsDone, inTurn};
 
 // A journey by its time pair.
 pub struct Journey {
@@ -135,29 +134,6 @@ fn take(c: Criterion, d: u16, a: u16, best: Found) -> Found
     best
 }
 
-fn is_past(l: Label, hub: u16, minute: u16) -> bool
-    ensures { λ r. ⌜ r ≡ pastB l hub minute ⌝ }
-{
-    ahead(hub as u32, l.hub as u32, minute <= l.dep)
-}
-
-// The first label from `from` on, below `to`, with this hub that leaves at or after this minute; or where it would stand.
-fn partner(tables: &[u8], n: u16, from: usize, to: usize, hub: u16, minute: u16) -> usize
-    requires { ⌜ Room (now tables) n ⌝ }
-    requires { ⌜ (from ≤ to) × (to ≤ labelsOf (now tables)) ⌝ }
-    ensures { λ r. ⌜ FirstAt (Past (tablesOf (now (tables .entry))) hub minute) from to r ⌝ }
-{
-    let mut k = from;
-    while k < to {
-        let l = tables::label_at(tables, n, k);
-        if is_past(l, hub, minute) {
-            return k;
-        }
-        k += 1;
-    }
-    k
-}
-
 // What out-label k, read as l, gives: its own pair where its hub is v, else with its partner's arrival.
 fn out_turn(
     tables: &[u8],
@@ -201,14 +177,14 @@ fn over_outs(
     in_to: usize,
 ) -> Joined
     requires { ⌜ Sets (now tables) n u v «out_from» «out_to» «in_from» «in_to» ⌝ }
-    ensures { λ r. ⌜ OutsTo (now (tables .entry)) u v c «out_from» «out_to» «in_to» (r .best) (r .next) «out_to» ⌝ }
+    ensures { λ r. ⌜ OutsDone (now (tables .entry)) u v c «out_from» «out_to» «in_to» (r .best) (r .next) «out_to» ⌝ }
 {
     let mut best = Found::Nothing;
     let mut next = in_from;
     let mut k = out_from;
     while k < out_to {
         let l = tables::label_at(tables, n, k);
-        let m = partner(tables, n, next, in_to, l.hub, l.arr);
+        let m = label_sets::seek(tables, n, next, in_to, l.hub, Moment::Leaving(l.arr));
         best = out_turn(tables, n, c, u, v, in_to, k, l, m, best);
         next = m;
         k += 1;
@@ -238,8 +214,8 @@ fn over_ins(
     best: Found,
 ) -> Found
     requires { ⌜ ((outFrom outTo inFrom : ℕ) × Sets (now tables) n u v outFrom outTo inFrom «in_to») ⌝ }
-    requires { ⌜ InsTo (now tables) u v c «in_to» best from ⌝ }
-    ensures { λ r. ⌜ InsTo (now (tables .entry)) u v c «in_to» r «in_to» ⌝ }
+    requires { ⌜ InsDone (now tables) u v c «in_to» best from ⌝ }
+    ensures { λ r. ⌜ InsDone (now (tables .entry)) u v c «in_to» r «in_to» ⌝ }
 {
     let mut found = best;
     let mut k = from;

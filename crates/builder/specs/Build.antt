@@ -9,7 +9,9 @@ use Rattle.kinds.specs.declared.Refusal.{Refusal}
 use Rattle.journeys.specs.Service.{Service}
 use Rattle.journeys.specs.Rule.{ByRule}
 use Rattle.journeys.specs.Count.{RuleCount}
-use Rattle.timetable.specs.Numbers.{serviceOf, judgedOf}
+use Rattle.timetable.specs.Numbers.{judgedOf}
+use Rattle.timetable.specs.Slots.{serviceOf}
+use Rattle.timetable.specs.declared.Given.{Given}
 use Rattle.timetable.specs.declared.Judged.the-variants as judged
 use Rattle.tables.specs.File.{placeOf, tablesOf}
 use Rattle.tables.specs.Judged.{judgedTables}
@@ -36,6 +38,6 @@ pub data BuiltOf (S : Service) (lent : ℕ) (answer : BuildAnswer) (tables : Lis
       answer ≡ Built (placeOf (S .stops) k) k → tables ≡ file ++ replicate (lent - placeOf (S .stops) k) 0 → BuiltOf S lent answer tables
 
 -- the call: "Builder: those" of the given numbers first
-pub data BuildOf (stops count : ℕ) (runs : List ℕ) (work lent : ℕ) (answer : BuildAnswer) (tables : List ℕ) : Type 0 where
-  refused : (r : Refusal) → judgedOf stops count runs work buildRoom ≡ judged.No r → answer ≡ No r → tables ≡ replicate lent 0 → BuildOf stops count runs work lent answer tables
-  good : judgedOf stops count runs work buildRoom ≡ judged.Good → BuiltOf (serviceOf stops count runs) lent answer tables → BuildOf stops count runs work lent answer tables
+pub data BuildOf (given : Given) (runs : List ℕ) (work lent : ℕ) (answer : BuildAnswer) (tables : List ℕ) : Type 0 where
+  refused : (r : Refusal) → judgedOf given runs work buildRoom ≡ judged.No r → answer ≡ No r → tables ≡ replicate lent 0 → BuildOf given runs work lent answer tables
+  good : judgedOf given runs work buildRoom ≡ judged.Good → BuiltOf (serviceOf given runs) lent answer tables → BuildOf given runs work lent answer tables

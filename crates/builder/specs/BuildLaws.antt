@@ -12,12 +12,14 @@ use Rattle.journeys.specs.Count.{RuleCount}
 use Rattle.journeys.specs.CountLaws.{pairs-one, rule-count-one}
 use Rattle.tables.specs.File.{placeOf, tablesOf, AreBytes}
 use Rattle.tables.specs.GoodLaws.{good-judged}
-use Rattle.tables.specs.OneFile.{SameLabels, one-file}
+use Rattle.tables.specs.OneFile.{SameLabels}
+use Rattle.tables.specs.OneFileLaws.{one-file}
 use Rattle.counts.specs.SumLaws.{sum-same}
 use Rattle.counts.specs.Sets.{SetsTo, CountedAll}
 use Rattle.builder.specs.Contents.{Sized}
 use Rattle.builder.specs.Writing.{WrittenTo}
 use Rattle.builder.specs.ByRuleLaws.{rule-file, rule-by}
+use Rattle.timetable.specs.declared.Given.{Given}
 use Rattle.builder.specs.Build.{RuleFile, BuiltOf, over, short, built, BuildOf, refused, good}
 use Rattle.builder.specs.declared.BuildAnswer.{BuildAnswer}
 use Rattle.builder.specs.declared.BuildAnswer.the-variants.{Built, No}
@@ -67,7 +69,7 @@ module _ {lent n k : ℕ} {tables : List ℕ} where
   built-in (short j R h l p q) = let z : _≡_ {A = ℕ} 0 1 = cc in absurd (omega arith)
   built-in {S} (built j f R h l g m p q) = let e : n ≡ placeOf (S .stops) j = cc in omega arith
 
-  pub built-within : {stops count : ℕ} {runs : List ℕ} {work : ℕ} → BuildOf stops count runs work lent (Built n k) tables → n ≤ lent
+  pub built-within : {given : Given} {runs : List ℕ} {work : ℕ} → BuildOf given runs work lent (Built n k) tables → n ≤ lent
   built-within (refused r e p q) = let z : _≡_ {A = ℕ} 0 1 = cc in absurd (omega arith)
   built-within (good e b) = built-in b
 
@@ -103,8 +105,8 @@ module _ {S : Service} where
       (p ∙ ap (λ m. Built (placeOf (S .stops) m) m) e ∙ sym p′, q ∙ ap₂ (λ (b : List ℕ) (m : ℕ). b ++ replicate (lent - placeOf (S .stops) m) 0) z e ∙ sym q′)
 
 -- no second answer, and no second bytes, meet the contract
-pub build-one : {stops count : ℕ} {runs : List ℕ} {work lent : ℕ} {a a′ : BuildAnswer} {t t′ : List ℕ} → AreBytes t → AreBytes t′ →
-    BuildOf stops count runs work lent a t → BuildOf stops count runs work lent a′ t′ → (a ≡ a′) × (t ≡ t′)
+pub build-one : {given : Given} {runs : List ℕ} {work lent : ℕ} {a a′ : BuildAnswer} {t t′ : List ℕ} → AreBytes t → AreBytes t′ →
+    BuildOf given runs work lent a t → BuildOf given runs work lent a′ t′ → (a ≡ a′) × (t ≡ t′)
 build-one x y (refused r e p q) (refused r′ e′ p′ q′) =
     let z = sym e ∙ e′ in
     let same : r ≡ r′ = cc in

@@ -14,7 +14,8 @@ use Rattle.journeys.specs.Service.{Service, GoodService}
 use Rattle.journeys.specs.Tables.{Side, outs, ins, Entry}
 use Rattle.journeys.specs.Rule.{Pivot, by-stop, Rule, ByRule}
 use Rattle.journeys.specs.Count.{Timed, PairLabels, RuleCount}
-use Rattle.journeys.specs.JourneyLaws.{journey-later, journey-last, journey-from, journey-to, Via, between-iff, not-start, not-end}
+use Rattle.journeys.specs.JourneyLaws.{journey-later, journey-last, journey-from, journey-to, between-iff, not-start, not-end}
+use Rattle.journeys.specs.Paths.{Via}
 use Rattle.journeys.specs.RuleLaws.{none-via}
 use Rattle.tables.specs.File.{setOf, ownerOf, countOf, startOf, endOf, labelsOf, labelAt, pivotOf, tablesOf}
 use Rattle.tables.specs.TablesLaws.{pivot-some, pivot-is, set-below, set-owner}

@@ -1,5 +1,5 @@
 -- What the check's refusals name, spelled out. The timetable text is s; the reader left the codes' places and the runs' numbers; T are the tables.
-use Prim.Native.Nat.{ℕ, _<_}
+use Prim.Native.Nat.{ℕ, _<_, _+_}
 use mathlib.Core.Path.{_≡_}
 use mathlib.Core.Logic.{_≢_}
 use mathlib.Core.List.{List, [], _++_}
@@ -12,8 +12,8 @@ use Rattle.journeys.specs.Tables.{Side, outs, ins, Tables, Entry, LabelAt}
 use Rattle.tables.specs.File.{stopsOf, labelsOf}
 use Rattle.tables.specs.Good.{Room, GoodFile}
 use Rattle.timetable.specs.Numbers.{runAt, GoodRunAt}
-use Rattle.answers.specs.Answers.{codeAt, Named}
-use Rattle.report.specs.Lines.{labelLine, entryLine, runLine, stopLine}
+use Rattle.lookup.specs.Lookup.{codeAt, Named}
+use Rattle.report.specs.Lines.{labelLine, entryLine, numberedRun, numberedStop}
 use Rattle.report.specs.declared.Change.{Change}
 use Rattle.report.specs.declared.Change.the-variants.{Direct, At}
 use Rattle.report.specs.declared.Pivot.{Pivot}
@@ -37,10 +37,10 @@ pub record LabelSpelled (T : Tables) (s codes : List ℕ) (k : ℕ) (xs : List �
 abbrev pub runSpelled : List ℕ → List ℕ → List ℕ → ℕ → List ℕ
 runSpelled s codes runs i =
     let r = runAt runs i in
-    runLine s i (codeAt codes (r .from)) (codeAt codes (r .to)) (r .dep) (r .arr) (r .trip)
+    numberedRun s i (codeAt codes (r .from)) (codeAt codes (r .to)) (r .dep) (r .arr) (r .trip)
 
 abbrev pub stopSpelled : List ℕ → List ℕ → ℕ → List ℕ
-stopSpelled s codes j = stopLine s j (codeAt codes j)
+stopSpelled s codes j = numberedStop s j (codeAt codes j)
 
 -- the two sets of a stop, and a pivot, as they are printed
 abbrev pub sideOf : Bool → Side
@@ -92,3 +92,11 @@ pub record Spellable (b s codes runs : List ℕ) (n : ℕ) (r : Refusal) : Type 
   pub label : r .number ≡ unsupported → r .place < labelsOf b
   pub run : r .number ≡ gap → RunNamed s codes runs (r .place)
   pub stop : r .number ≡ gap → r .stop < n
+
+-- a number names one label
+pub record SameLabel (u v d a : ℕ) (p : Option ℕ) (u′ v′ d′ a′ : ℕ) (p′ : Option ℕ) : Type 0 where
+  pub from : u ≡ u′
+  pub to : v ≡ v′
+  pub dep : d ≡ d′
+  pub arr : a ≡ a′
+  pub pivot : p ≡ p′

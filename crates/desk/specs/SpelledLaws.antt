@@ -11,34 +11,33 @@ use borrow.Author.Tests.{lt-ltb, le-ltb}
 use Rattle.kinds.specs.Limits.{noPivot, runsRoom}
 use Rattle.kinds.specs.declared.Refusal.{Refusal}
 use Rattle.journeys.specs.Tables.{outs, ins, Tables, Entry, LabelAt, of-out, of-in}
+use Rattle.timetable.specs.Numbers.{givenOf}
 use Rattle.tables.specs.File.{startOf, labelsOf, labelAt, pivotOf, tablesOf}
 use Rattle.tables.specs.FileLaws.{start-none, start-more}
 use Rattle.tables.specs.Good.{Room, GoodFile}
-use Rattle.tables.specs.TablesLaws.{pivot-none, pivot-some, good-stops, room-entry, entry-only, good-tables}
+use Rattle.tables.specs.TablesLaws.{pivot-none, pivot-some, tables-start, tables-end, good-stops, room-entry, entry-only, good-tables}
 use Rattle.reader.specs.Text.{GoodRead}
-use Rattle.answers.specs.AnswersLaws.{named-all}
+use Rattle.reader.specs.TextLaws.{named-all}
 use Rattle.report.specs.Lines.{ChangeIn, entryLine}
-use Rattle.desk.specs.Spelled.{changeAt, stopSpelled, sideOf, pivotSaid, BadSpelled, AllNamed, Spellable}
-use Rattle.desk.specs.CheckLaws.{Places}
+use Rattle.desk.specs.Spelled.{changeAt, stopSpelled, sideOf, pivotSaid, BadSpelled, AllNamed, Spellable, SameLabel}
+use Rattle.desk.specs.Places.{Places}
 
 module _ (b : List ℕ) where
   pub outs-first : tablesOf b .start outs 0 ≡ 0
-  unfolding tablesOf
-  outs-first = start-none b
+  outs-first = tables-start b outs 0 ∙ start-none b
 
   -- the in-labels of a stop follow its out-labels, and the next stop's labels follow them
   pub ins-follow : (s : ℕ) → tablesOf b .end outs s ≡ tablesOf b .start ins s
-  unfolding tablesOf
-  ins-follow s = sym (start-more b (2 * s))
+  ins-follow s = tables-end b outs s ∙ sym (start-more b (2 * s)) ∙ sym (tables-start b ins s)
 
   pub outs-follow : (s : ℕ) → tablesOf b .end ins s ≡ tablesOf b .start outs (s + 1)
-  unfolding tablesOf
-  outs-follow s = let e : 2 * s + 1 + 1 ≡ 2 * (s + 1) = omega arith in sym (start-more b (2 * s + 1)) ∙ ap (startOf b) e
+  outs-follow s =
+      let e : 2 * s + 1 + 1 ≡ 2 * (s + 1) = omega arith in
+      tables-end b ins s ∙ sym (start-more b (2 * s + 1)) ∙ ap (startOf b) e ∙ sym (tables-start b outs (s + 1))
 
 module _ {b : List ℕ} {n : ℕ} (g : Room b n) where
   pub outs-last : tablesOf b .start outs n ≡ labelsOf b
-  unfolding tablesOf
-  outs-last = ap (λ (m : ℕ). startOf b (2 * m)) (sym (g .contents .stops))
+  outs-last = tables-start b outs n ∙ ap (λ (m : ℕ). startOf b (2 * m)) (sym (g .contents .stops))
 
   -- label k stands between the bounds of stop s: it is an out-label or an in-label
   pub label-out : (s k : ℕ) → s < n → tablesOf b .start outs s ≤ k → k < tablesOf b .end outs s →
@@ -49,23 +48,29 @@ module _ {b : List ℕ} {n : ℕ} (g : Room b n) where
       Entry (tablesOf b) ins k s (labelAt b k .hub) (labelAt b k .dep) (labelAt b k .arr) (pivotOf (labelAt b k .pivot))
   label-in s k lt low high = room-entry g ins s k lt (omega (arith, ins-follow b s)) high
 
--- a number names one label
-pub record SameLabel (u v d a : ℕ) (p : Option ℕ) (u′ v′ d′ a′ : ℕ) (p′ : Option ℕ) : Type 0 where
-  pub from : u ≡ u′
-  pub to : v ≡ v′
-  pub dep : d ≡ d′
-  pub arr : a ≡ a′
-  pub pivot : p ≡ p′
-
 no-side : outs ≡ ins → ⊥
 no-side e = let z : _≡_ {A = ℕ} 0 1 = cc in omega arith
 
 module _ (b : List ℕ) {k u v d a u′ v′ d′ a′ : ℕ} {p p′ : Option ℕ} where
   pub label-one : LabelAt (tablesOf b) k u v d a p → LabelAt (tablesOf b) k u′ v′ d′ a′ p′ → SameLabel u v d a p u′ v′ d′ a′ p′
   label-one (of-out x) (of-out y) =
-      record { from = entry-only b x y .1; to = sym (x .hub) ∙ y .hub; dep = sym (x .dep) ∙ y .dep; arr = sym (x .arr) ∙ y .arr; pivot = sym (x .pivot) ∙ y .pivot }
+      record {
+        from = entry-only b x y .1;
+        to = sym (x .hub) ∙ y .hub;
+        dep = sym (x .dep) ∙ y .dep;
+        arr = sym (x .arr) ∙ y .arr;
+        pivot = sym (x .pivot) ∙
+            y .pivot;
+      }
   label-one (of-in x) (of-in y) =
-      record { from = sym (x .hub) ∙ y .hub; to = entry-only b x y .1; dep = sym (x .dep) ∙ y .dep; arr = sym (x .arr) ∙ y .arr; pivot = sym (x .pivot) ∙ y .pivot }
+      record {
+        from = sym (x .hub) ∙ y .hub;
+        to = entry-only b x y .1;
+        dep = sym (x .dep) ∙ y .dep;
+        arr = sym (x .arr) ∙ y .arr;
+        pivot = sym (x .pivot) ∙
+            y .pivot;
+      }
   label-one (of-out x) (of-in y) = absurd (no-side (entry-only b x y .0))
   label-one (of-in x) (of-out y) = absurd (no-side (sym (entry-only b x y .0)))
 
@@ -76,15 +81,25 @@ side-one false false e = refl
 side-one true false e = absurd (no-side e)
 side-one false true e = absurd (no-side (sym e))
 
-pub bad-spelled-one : (b : List ℕ) {s codes : List ℕ} {stops k : ℕ} {xs ys : List ℕ} → BadSpelled (tablesOf b) s codes stops k xs → BadSpelled (tablesOf b) s codes stops k ys → xs ≡ ys
+pub bad-spelled-one : (b : List ℕ) {s codes : List ℕ} {stops k : ℕ} {xs ys : List ℕ} → BadSpelled (tablesOf b) s codes stops k xs →
+    BadSpelled (tablesOf b) s codes stops k ys → xs ≡ ys
 bad-spelled-one b x y =
     let z = entry-only b (x .entry) (y .entry) in
-    x .is ∙ rw (side-one (x .out) (y .out) (z .0), z .1, sym (x .entry .hub) ∙ y .entry .hub, sym (x .entry .dep) ∙ y .entry .dep, sym (x .entry .arr) ∙ y .entry .arr, sym (x .entry .pivot) ∙ y .entry .pivot)
+    x .is ∙ rw (
+      side-one (x .out) (y .out) (z .0),
+      z .1,
+      sym (x .entry .hub) ∙ y .entry .hub,
+      sym (x .entry .dep) ∙ y .entry .dep,
+      sym (x .entry .arr) ∙
+          y .entry .arr,
+      sym (x .entry .pivot) ∙ y .entry .pivot,
+    )
     (sym (y .is))
 
 -- the stop that owns it is one of the timetable's, or is not
 module _ {T : Tables} (out : Bool) {k owner hub dep arr : ℕ} {pivot : Option ℕ} (e : Entry T (sideOf out) k owner hub dep arr pivot) where
-  pub bad-owned : {s codes : List ℕ} {stops : ℕ} → owner < stops → BadSpelled T s codes stops k (entryLine k out owner hub dep arr (pivotSaid pivot) ++ stopSpelled s codes owner)
+  pub bad-owned : {s codes : List ℕ} {stops : ℕ} → owner < stops →
+      BadSpelled T s codes stops k (entryLine k out owner hub dep arr (pivotSaid pivot) ++ stopSpelled s codes owner)
   bad-owned {stops = stops} lt = record { out = out; owner = owner; hub = hub; dep = dep; arr = arr; pivot = pivot; entry = e; is = rw (lt-ltb owner stops lt) }
 
   pub bad-alone : {s codes : List ℕ} {stops : ℕ} → stops ≤ owner → BadSpelled T s codes stops k (entryLine k out owner hub dep arr (pivotSaid pivot))
@@ -124,7 +139,7 @@ change-in {s} {codes} {n} a q (inr lt) = go (ℕ-discrete q noPivot)
     go (no e) = rw (pivot-some q e) (a .stop q lt .code)
 
 pub spellable : {s b codes runs : List ℕ} {roomR roomC stops count : ℕ} {r : Refusal} → runsRoom ≤ roomR → GoodRead s roomR roomC stops count runs codes →
-    Places b stops count r → Spellable b s codes runs stops r
+    Places b (givenOf stops count) r → Spellable b s codes runs stops r
 spellable {s} {b} {codes} {runs} {roomR} {roomC} {stops} {count} {r} room g p =
     record {
       names = record { stop = named-all g };
@@ -132,6 +147,10 @@ spellable {s} {b} {codes} {runs} {roomR} {roomC} {stops} {count} {r} room g p =
       file = p .file;
       label = p .label;
       run = λ h. let q = g .good (r .place) (p .run h) in
-          record { run = record { stops = stops; few = g .few; long = omega (arith, g .few-runs, g .numbers-long, p .run h); good = q }; from = named-all g _ (q .from-stop); to = named-all g _ (q .to-stop) };
+          record {
+            run = record { stops = stops; few = g .few; long = omega (arith, g .few-runs, g .numbers-long, p .run h); good = q };
+            from = named-all g _ (q .from-stop);
+            to = named-all g _ (q .to-stop);
+          };
       stop = p .stop;
     }

@@ -4,15 +4,14 @@ use mathlib.Core.Path.{_≡_, refl, ap, subst, _∙_}
 use mathlib.Core.List.{List, _++_}
 use native.Mathlib.Omega.{arith}
 use lib.ListN.{length}
-use lib.Dec.{ltb}
-use borrow.Author.Tests.{ltb-false}
-use Rattle.loops.specs.Chain.{past}
-use Rattle.kinds.specs.Limits.{runsRoom, codesRoom, mostStops, mostText}
+use Rattle.kinds.specs.Limits.{runsRoom, mostStops, mostText}
 use Rattle.kinds.specs.declared.Refusal.{Refusal}
+use Rattle.timetable.specs.Numbers.{givenOf}
+use Rattle.timetable.specs.declared.Given.{Given}
 use Rattle.reader.specs.declared.Counts.{Counts}
 use Rattle.reader.specs.declared.ReadAnswer.the-variants as read
-use Rattle.reader.specs.Text.{Sofar, Outcome, whole, bad, readText, answerOf, runsOf, codesOf, GoodRead}
-use Rattle.reader.specs.TextLaws.{text-good}
+use Rattle.reader.specs.Text.{Sofar, ReadOutcome, whole, bad, readText, answerOf, runsOf, codesOf, GoodRead}
+use Rattle.reader.specs.TextLaws.{text-good, text-roomy, text-short}
 use Rattle.tables.specs.File.{tablesOf, placeOf}
 use Rattle.verdict.specs.declared.Verdict.{Verdict}
 use Rattle.verdict.specs.declared.Verdict.the-variants as verdict
@@ -28,49 +27,39 @@ use Rattle.desk.specs.Spelled.{Spelled, Spellable}
 use Rattle.desk.specs.CheckLaws.{checked-places}
 use Rattle.desk.specs.SpelledLaws.{spellable}
 use Rattle.desk.specs.Told as told
-use Rattle.desk.specs.Told.{Refused, by-check, Accepts, AdmitOf, admits, refuses, CheckTold}
+use Rattle.desk.specs.Told.{Refused, by-check, Accepts, AdmitOf, admits, refuses, CheckTold, ReadWhole}
 use Rattle.desk.specs.declared.Admitted.{Admitted}
 use Rattle.desk.specs.declared.Admitted.the-variants as answer
 
 -- ---- what the reader left
-
--- a text that was read whole, with so many stops and runs; the rooms hold these numbers and codes
-pub record ReadWhole (s : List ℕ) (roomR roomC : ℕ) (k : Counts) (numbers codes : List ℕ) : Type 0 where
-  pub read : Sofar
-  pub whole : readText s roomR roomC ≡ whole read
-  pub counts : k ≡ record { stops = read .stops; runs = read .runs }
-  pub numbers-are : numbers ≡ read .numbers
-  pub codes-are : codes ≡ read .codes
 
 module _ (s : List ℕ) (roomR roomC : ℕ) where
   pub read-whole : {k : Counts} {numbers codes : List ℕ} → read.Read k ≡ answerOf (readText s roomR roomC) → numbers ≡ runsOf (readText s roomR roomC) roomR →
       codes ≡ codesOf (readText s roomR roomC) roomC → ReadWhole s roomR roomC k numbers codes
   read-whole {k} {numbers} {codes} e n c = go (readText s roomR roomC) refl e n c
     where
-      go : (o : Outcome) → readText s roomR roomC ≡ o → read.Read k ≡ answerOf o → numbers ≡ runsOf o roomR → codes ≡ codesOf o roomC → ReadWhole s roomR roomC k numbers codes
+      go : (o : ReadOutcome) → readText s roomR roomC ≡ o → read.Read k ≡ answerOf o → numbers ≡ runsOf o roomR → codes ≡ codesOf o roomC →
+          ReadWhole s roomR roomC k numbers codes
       go (whole w) q e n c = record { read = w; whole = q; counts = cc; numbers-are = n; codes-are = c }
       go (bad m p) q e n c = let z : _≡_ {A = ℕ} 0 1 = cc in absurd (omega arith)
 
   -- a text that was refused
-  pub read-bad : {x : Refusal} → read.No x ≡ answerOf (readText s roomR roomC) → (number : ℕ) × (place : ℕ) × (readText s roomR roomC ≡ bad number place) × (x ≡ record { number = number; place = place; stop = 0 })
+  pub read-bad : {x : Refusal} → read.No x ≡ answerOf (readText s roomR roomC) → (number : ℕ) × (place : ℕ) × (readText s roomR roomC ≡ bad number place) ×
+      (x ≡ record { number = number; place = place; stop = 0 })
   read-bad {x} e = go (readText s roomR roomC) refl e
     where
-      go : (o : Outcome) → readText s roomR roomC ≡ o → read.No x ≡ answerOf o → (number : ℕ) × (place : ℕ) × (readText s roomR roomC ≡ bad number place) × (x ≡ record { number = number; place = place; stop = 0 })
+      go : (o : ReadOutcome) → readText s roomR roomC ≡ o → read.No x ≡ answerOf o → (number : ℕ) × (place : ℕ) ×
+          (readText s roomR roomC ≡ bad number place) × (x ≡ record { number = number; place = place; stop = 0 })
       go (whole w) q e = let z : _≡_ {A = ℕ} 0 1 = cc in absurd (omega arith)
       go (bad m p) q e = (m, p, q, cc)
 
   -- only with room enough is a text read
   pub read-roomy : (w : Sofar) → readText s roomR roomC ≡ whole w → runsRoom ≤ roomR
-  unfolding readText
-  read-roomy w q = ltb-false roomR runsRoom (past (ltb roomR runsRoom) q (λ x. let y : _≡_ {A = ℕ} 0 1 = cc in omega arith) .0)
+  read-roomy w q = text-roomy s roomR roomC w q
 
   -- and only a text that is not too long
   pub read-short : (w : Sofar) → readText s roomR roomC ≡ whole w → length s ≤ mostText
-  unfolding readText
-  read-short w q =
-      let z₁ = past (ltb roomR runsRoom) q (λ x. let y : _≡_ {A = ℕ} 0 1 = cc in omega arith) in
-      let z₂ = past (ltb roomC codesRoom) (z₁ .1) (λ x. let y : _≡_ {A = ℕ} 0 1 = cc in omega arith) in
-      ltb-false mostText (length s) (past (ltb mostText (length s)) (z₂ .1) (λ x. let y : _≡_ {A = ℕ} 0 1 = cc in omega arith) .0)
+  read-short w q = text-short s roomR roomC w q
 
 -- ---- the check
 
@@ -78,9 +67,9 @@ module _ {s : List ℕ} {roomR roomC : ℕ} {k : Counts} {numbers codes : List �
   pub whole-few : k .stops ≤ mostStops
   whole-few = rw (g .counts) (text-good s roomR roomC (g .read) (g .whole) .0 .few)
 
-  module _ (b : List ℕ) (lent : ℕ) (v : Verdict) (c : Checked b (k .stops) (k .runs) numbers lent v) where
+  module _ (b : List ℕ) (lent : ℕ) (v : Verdict) (c : Checked b (givenOf (k .stops) (k .runs)) numbers lent v) where
     -- the check against what was read is the check against what the text means
-    checked-whole : Checked b (g .read .stops) (g .read .runs) (g .read .numbers) lent v
+    checked-whole : Checked b (givenOf (g .read .stops) (g .read .runs)) (g .read .numbers) lent v
     checked-whole = rw (g .counts, g .numbers-are) at c
 
     pub whole-accepts : v ≡ verdict.Accepted → Accepts s b roomR roomC lent k
@@ -97,9 +86,10 @@ module _ {s : List ℕ} {roomR roomC : ℕ} {k : Counts} {numbers codes : List �
     whole-spellable x e =
         rw (g .counts, g .numbers-are, g .codes-are)
         (spellable (read-roomy s roomR roomC (g .read) (g .whole)) (text-good s roomR roomC (g .read) (g .whole) .0)
-        (checked-places b (g .read .stops) (g .read .runs) (g .read .numbers) lent x (rw e at checked-whole)))
+        (checked-places b (givenOf (g .read .stops) (g .read .runs)) (g .read .numbers) lent x (rw e at checked-whole)))
 
-    pub whole-refused : (x : Refusal) (ys : List ℕ) → v ≡ verdict.No x → Spelled (tablesOf b) s codes numbers (k .stops) x ys → Refused s b roomR roomC lent (refusalLine x ++ ys)
+    pub whole-refused : (x : Refusal) (ys : List ℕ) → v ≡ verdict.No x → Spelled (tablesOf b) s codes numbers (k .stops) x ys →
+        Refused s b roomR roomC lent (refusalLine x ++ ys)
     whole-refused x ys e p = by-check (g .read) x ys (g .whole) (rw e at checked-whole) (rw (g .counts, g .numbers-are, g .codes-are) at p) refl
 
 -- what the answer says of all that is told
@@ -126,7 +116,8 @@ module _ {s b : List ℕ} {roomR roomC lent : ℕ} {l m : List ℕ} {a : Admitte
       go (refuses xs i x f w) = let z : _≡_ {A = ℕ} 0 1 = cc in absurd (omega arith)
 
   -- of accepted tables: the text was read, and what the two rooms hold is good
-  pub admitted-read : {k : Counts} {numbers codes : List ℕ} → a ≡ answer.Yes k → numbers ≡ runsOf (readText s roomR roomC) roomR → codes ≡ codesOf (readText s roomR roomC) roomC →
+  pub admitted-read : {k : Counts} {numbers codes : List ℕ} → a ≡ answer.Yes k → numbers ≡ runsOf (readText s roomR roomC) roomR →
+      codes ≡ codesOf (readText s roomR roomC) roomC →
       GoodRead s roomR roomC (k .stops) (k .runs) numbers codes × (length s ≤ mostText) × (runsRoom ≤ roomR)
   admitted-read {k} {numbers} {codes} e en ec = go t
     where
@@ -136,28 +127,31 @@ module _ {s b : List ℕ} {roomR roomC lent : ℕ} {l m : List ℕ} {a : Admitte
           let w = x .read in
           let q = x .whole in
           let g = text-good s roomR roomC w q .0 in
-          let r : numbers ≡ w .numbers = en ∙ ap (λ (o : Outcome). runsOf o roomR) q in
-          let c : codes ≡ w .codes = ec ∙ ap (λ (o : Outcome). codesOf o roomC) q in
+          let r : numbers ≡ w .numbers = en ∙ ap (λ (o : ReadOutcome). runsOf o roomR) q in
+          let c : codes ≡ w .codes = ec ∙ ap (λ (o : ReadOutcome). codesOf o roomC) q in
           (rw (← same, x .stops, x .runs, r, c) g, read-short s roomR roomC w q, read-roomy s roomR roomC w q)
       go (refuses xs i x f w) = let z : _≡_ {A = ℕ} 0 1 = cc in absurd (omega arith)
 
 -- ---- the build
 
 -- tables that were built fit into what was lent
-built-short : {S : Service} {lent : ℕ} {answer : BuildAnswer} {tables : List ℕ} {long labels : ℕ} → BuiltOf S lent answer tables → answer ≡ build.Built long labels → long ≤ lent
+built-short : {S : Service} {lent : ℕ} {answer : BuildAnswer} {tables : List ℕ} {long labels : ℕ} → BuiltOf S lent answer tables →
+    answer ≡ build.Built long labels → long ≤ lent
 built-short (over k r l e t) f = let z : _≡_ {A = ℕ} 0 1 = cc in absurd (omega arith)
 built-short (short k r l h e t) f = let z : _≡_ {A = ℕ} 0 1 = cc in absurd (omega arith)
 built-short {S} {lent} {long = long} (built k file r l h q n e t) f = let m : long ≡ placeOf (S .stops) k = cc in omega arith
 
-pub build-short : {stops count : ℕ} {runs : List ℕ} {work lent : ℕ} {answer : BuildAnswer} {tables : List ℕ} {long labels : ℕ} → BuildOf stops count runs work lent answer tables →
+pub build-short : {given : Given} {runs : List ℕ} {work lent : ℕ} {answer : BuildAnswer} {tables : List ℕ} {long labels : ℕ} →
+    BuildOf given runs work lent answer tables →
     answer ≡ build.Built long labels → long ≤ lent
 build-short (refused r j e t) f = let z : _≡_ {A = ℕ} 0 1 = cc in absurd (omega arith)
 build-short (good j x) f = built-short x f
 
 -- the build of what was read is the build of what the text means
 module _ {s : List ℕ} {roomR roomC : ℕ} {k : Counts} {numbers codes : List ℕ} (g : ReadWhole s roomR roomC k numbers codes) where
-  pub whole-build : {work lent : ℕ} {answer x : BuildAnswer} {tables : List ℕ} → BuildOf (k .stops) (k .runs) numbers work lent answer tables → answer ≡ x →
-      BuildOf (g .read .stops) (g .read .runs) (g .read .numbers) work lent x tables
+  pub whole-build : {work lent : ℕ} {answer x : BuildAnswer} {tables : List ℕ} → BuildOf (givenOf (k .stops) (k .runs)) numbers work lent answer tables →
+      answer ≡ x →
+      BuildOf (givenOf (g .read .stops) (g .read .runs)) (g .read .numbers) work lent x tables
   whole-build b e = rw (g .counts, g .numbers-are, e) at b
 
   pub whole-written : (labels long : ℕ) → writtenLine (k .stops) (k .runs) labels long ≡ writtenLine (g .read .stops) (g .read .runs) labels long

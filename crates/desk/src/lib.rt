@@ -1,5 +1,4 @@
 // What people are told of a check and of a build.
-use answers::code_at;
 use builder::BuildAnswer;
 use builder::Work;
 use kinds::Label;
@@ -7,11 +6,13 @@ use kinds::Refusal;
 use kinds::Run;
 use kinds::Stop;
 use kinds::Text;
+use lookup::code_at;
 use reader::Counts;
 use reader::ReadAnswer;
 use report::Change;
 use report::Pivot;
 use tables::TablesRead;
+use timetable::Given;
 use verdict::Verdict;
 ghost use mathlib.Core.Path.{_≡_};
 ghost use mathlib.Core.List.{List, _++_};
@@ -25,12 +26,13 @@ ghost use Rattle.tables.specs.File.{tablesOf, fileRoom, labelsOf, labelAt, pivo
 ghost use Rattle.tables.specs.Judged.{judgedTables};
 ghost use Rattle.tables.specs.Good.{Room, GoodFile};
 ghost use Rattle.reader.specs.Text.{readText, runsOf, codesOf};
-ghost use Rattle.answers.specs.Answers.{Named};
+ghost use Rattle.lookup.specs.Lookup.{Named};
 ghost use Rattle.printed.specs.Wrote.{Wrote};
-ghost use Rattle.report.specs.Lines.{lineRoom};
+ghost use Rattle.report.specs.Lines.{reportRoom};
 ghost use Rattle.report.specs.Words.{refusalLine};
-ghost use Rattle.desk.specs.Spelled.{changeAt, LabelSpelled, sideOf, pivotSaid, BadSpelled, runSpelled, stopSpelled, Spelled, BadPlace, AllNamed, RunNamed, Spellable};
-ghost use Rattle.ground.specs.Ground.{groundRoom};
+ghost use Rattle.desk.specs.Spelled.{changeAt, LabelSpelled, sideOf, pivotSaid, BadSpelled, runSpelled, stopSpelled, Spelled, BadPlace, AllNamed};
+ghost use Rattle.desk.specs.Spelled.{RunNamed, Spellable};
+ghost use Rattle.both.specs.Both.{workRoom};
 ghost use Rattle.desk.specs.Told.{toldRoom, before, AdmitOf, AdmitShort, CheckTold, BuildTold, MadeShort};
 
 // The tables are accepted, and the timetable has so many stops and runs; or so many bytes tell why not.
@@ -102,7 +104,8 @@ fn owner_of(tables: &[u8], n: u16, k: usize) -> u16
 fn set_of(tables: &[u8], n: u16, k: usize) -> Whose
     requires { ⌜ Room (now tables) n ⌝ }
     requires { ⌜ k < labelsOf (now tables) ⌝ }
-    ensures { λ r. ⌜ Entry (tablesOf (now (tables .entry))) (sideOf (r .outgoing)) k (r .owner) (labelAt (now (tables .entry)) k .hub) (labelAt (now (tables .entry)) k .dep)
+    ensures { λ r. ⌜ Entry (tablesOf (now (tables .entry))) (sideOf (r .outgoing)) k (r .owner) (labelAt (now (tables .entry)) k .hub)
+        (labelAt (now (tables .entry)) k .dep)
         (labelAt (now (tables .entry)) k .arr) (pivotOf (labelAt (now (tables .entry)) k .pivot)) ⌝ }
 {
     let owner = owner_of(tables, n, k);
@@ -162,11 +165,12 @@ fn spell_label(
     n: u16,
     k: u32,
 ) -> usize
-    requires { ⌜ at + lineRoom ≤ length (now out) ⌝ }
+    requires { ⌜ at + reportRoom ≤ length (now out) ⌝ }
     requires { ⌜ AllNamed (now text) (now codes) n ⌝ }
     requires { ⌜ GoodFile (now tables) n × (k < labelsOf (now tables)) ⌝ }
-    ensures { λ r. ⌜ ((xs : List ℕ) × LabelSpelled (tablesOf (now (tables .entry))) (now (text .entry)) (now (codes .entry)) k xs × Wrote (now (out .entry)) at xs (now (out .exit)) r) ⌝ }
-    ensures { λ r. ⌜ r ≤ at + lineRoom ⌝ }
+    ensures { λ r. ⌜ ((xs : List ℕ) × LabelSpelled (tablesOf (now (tables .entry))) (now (text .entry)) (now (codes .entry)) k xs ×
+        Wrote (now (out .entry)) at xs (now (out .exit)) r) ⌝ }
+    ensures { λ r. ⌜ r ≤ at + reportRoom ⌝ }
 {
     let i = k as usize;
     let ends = ends_of(tables, n, i);
@@ -207,11 +211,12 @@ fn spell_bad(
     n: u16,
     k: u32,
 ) -> usize
-    requires { ⌜ at + 2 * lineRoom ≤ length (now out) ⌝ }
+    requires { ⌜ at + 2 * reportRoom ≤ length (now out) ⌝ }
     requires { ⌜ AllNamed (now text) (now codes) n ⌝ }
     requires { ⌜ BadPlace (now tables) k ⌝ }
-    ensures { λ r. ⌜ ((xs : List ℕ) × BadSpelled (tablesOf (now (tables .entry))) (now (text .entry)) (now (codes .entry)) n k xs × Wrote (now (out .entry)) at xs (now (out .exit)) r) ⌝ }
-    ensures { λ r. ⌜ r ≤ at + 2 * lineRoom ⌝ }
+    ensures { λ r. ⌜ ((xs : List ℕ) × BadSpelled (tablesOf (now (tables .entry))) (now (text .entry)) (now (codes .entry)) n k xs ×
+        Wrote (now (out .entry)) at xs (now (out .exit)) r) ⌝ }
+    ensures { λ r. ⌜ r ≤ at + 2 * reportRoom ⌝ }
 {
     let i = k as usize;
     let stops = tables::stop_count(tables);
@@ -236,10 +241,10 @@ fn spell_bad(
 }
 
 fn spell_run(out: &mut [u8], at: usize, text: &[u8], codes: &[u32], runs: &[u32], i: u32) -> usize
-    requires { ⌜ at + lineRoom ≤ length (now out) ⌝ }
+    requires { ⌜ at + reportRoom ≤ length (now out) ⌝ }
     requires { ⌜ RunNamed (now text) (now codes) (now runs) i ⌝ }
     ensures { λ r. ⌜ Wrote (now (out .entry)) at (runSpelled (now (text .entry)) (now (codes .entry)) (now (runs .entry)) i) (now (out .exit)) r ⌝ }
-    ensures { λ r. ⌜ r ≤ at + lineRoom ⌝ }
+    ensures { λ r. ⌜ r ≤ at + reportRoom ⌝ }
 {
     let run = timetable::run_at(runs, i as usize);
     let from = code_at(codes, run.from as usize);
@@ -258,10 +263,10 @@ fn spell_run(out: &mut [u8], at: usize, text: &[u8], codes: &[u32], runs: &[u32]
 }
 
 fn spell_stop(out: &mut [u8], at: usize, text: &[u8], codes: &[u32], j: u32) -> usize
-    requires { ⌜ at + lineRoom ≤ length (now out) ⌝ }
+    requires { ⌜ at + reportRoom ≤ length (now out) ⌝ }
     requires { ⌜ Named (now text) (now codes) j ⌝ }
     ensures { λ r. ⌜ Wrote (now (out .entry)) at (stopSpelled (now (text .entry)) (now (codes .entry)) j) (now (out .exit)) r ⌝ }
-    ensures { λ r. ⌜ r ≤ at + lineRoom ⌝ }
+    ensures { λ r. ⌜ r ≤ at + reportRoom ⌝ }
 {
     let code = code_at(codes, j as usize);
     report::stop_line(out, at, text, j, code)
@@ -278,10 +283,11 @@ fn spell(
     n: u16,
     x: Refusal,
 ) -> usize
-    requires { ⌜ at + 2 * lineRoom ≤ length (now out) ⌝ }
+    requires { ⌜ at + 2 * reportRoom ≤ length (now out) ⌝ }
     requires { ⌜ Spellable (now tables) (now text) (now codes) (now runs) n x ⌝ }
-    ensures { λ r. ⌜ ((xs : List ℕ) × Spelled (tablesOf (now (tables .entry))) (now (text .entry)) (now (codes .entry)) (now (runs .entry)) n x xs × Wrote (now (out .entry)) at xs (now (out .exit)) r) ⌝ }
-    ensures { λ r. ⌜ r ≤ at + 2 * lineRoom ⌝ }
+    ensures { λ r. ⌜ ((xs : List ℕ) × Spelled (tablesOf (now (tables .entry))) (now (text .entry)) (now (codes .entry)) (now (runs .entry)) n x xs ×
+        Wrote (now (out .entry)) at xs (now (out .exit)) r) ⌝ }
+    ensures { λ r. ⌜ r ≤ at + 2 * reportRoom ⌝ }
 {
     if x.number == Refusal::LABEL_BAD {
         return spell_bad(out, at, text, codes, tables, n, x.place);
@@ -344,8 +350,10 @@ pub fn admit(
     ensures { λ r. ⌜ AdmitOf (now (text .entry)) (now (tables .entry)) (length (now (runs .entry))) (length (now (codes .entry))) (length (now (work .entry)))
         (now (out .entry)) (now (out .exit)) r ⌝ }
     ensures { λ r. ⌜ AdmitShort r ⌝ }
-    ensures { λ _. ⌜ now (runs .exit) ≡ runsOf (readText (now (text .entry)) (length (now (runs .entry))) (length (now (codes .entry)))) (length (now (runs .entry))) ⌝ }
-    ensures { λ _. ⌜ now (codes .exit) ≡ codesOf (readText (now (text .entry)) (length (now (runs .entry))) (length (now (codes .entry)))) (length (now (codes .entry))) ⌝ }
+    ensures { λ _. ⌜ now (runs .exit) ≡ runsOf (readText (now (text .entry)) (length (now (runs .entry))) (length (now (codes .entry))))
+        (length (now (runs .entry))) ⌝ }
+    ensures { λ _. ⌜ now (codes .exit) ≡ codesOf (readText (now (text .entry)) (length (now (runs .entry))) (length (now (codes .entry))))
+        (length (now (codes .entry))) ⌝ }
     ensures { λ _. ⌜ now (work .exit) ≡ zeros (now (work .entry)) ⌝ }
 {
     let read = reader::read(text, runs, codes);
@@ -356,7 +364,11 @@ pub fn admit(
             Admitted::No(n)
         }
         ReadAnswer::Read(counts) => {
-            let verdict = verdict::check(tables, counts.stops, counts.runs, runs, work);
+            let given = Given {
+                stops: counts.stops,
+                runs: counts.runs,
+            };
+            let verdict = verdict::check(tables, given, runs, work);
             match verdict {
                 Verdict::No(x) => {
                     let n = refuse(out, text, codes, runs, tables, counts.stops as u16, x);
@@ -371,12 +383,13 @@ pub fn admit(
 // All that is told of a check.
 pub fn checked(text: &[u8], tables: &[u8], out: &mut [u8]) -> usize
     requires { ⌜ toldRoom ≤ length (now out) ⌝ }
-    ensures { λ r. ⌜ ((xs : List ℕ) × CheckTold (now (text .entry)) (now (tables .entry)) runsRoom codesRoom groundRoom xs × Wrote (now (out .entry)) 0 xs (now (out .exit)) r) ⌝ }
+    ensures { λ r. ⌜ ((xs : List ℕ) × CheckTold (now (text .entry)) (now (tables .entry)) runsRoom codesRoom workRoom xs ×
+        Wrote (now (out .entry)) 0 xs (now (out .exit)) r) ⌝ }
     ensures { λ r. ⌜ r ≤ toldRoom ⌝ }
 {
     let mut runs = [0u32; Run::ROOM];
     let mut codes = [0u32; Stop::CODES_ROOM];
-    let mut work = [0u16; ground::ROOM];
+    let mut work = [0u16; both::ROOM];
     let admitted = admit(text, tables, &mut runs, &mut codes, &mut work, out);
     match admitted {
         Admitted::No(n) => n,
@@ -403,7 +416,11 @@ pub fn built(text: &[u8], tables: &mut [u8], out: &mut [u8]) -> Made
         }
         ReadAnswer::Read(counts) => {
             let mut work = [0u16; Work::ROOM];
-            let answer = builder::build(counts.stops, counts.runs, &runs, tables, &mut work);
+            let given = Given {
+                stops: counts.stops,
+                runs: counts.runs,
+            };
+            let answer = builder::build(given, &runs, tables, &mut work);
             match answer {
                 BuildAnswer::No(x) => {
                     let n = report::refusal_line(out, 0, x);

@@ -1,7 +1,7 @@
 -- The cases of an example day by tests that compute, each with the law that a passed test says so.
 use mathlib.Core.Path.{_≡_, refl, ap}
 use mathlib.Core.Logic.{_⊎_, inl, inr}
-use mathlib.Core.Bool.{Bool, true, false, not}
+use mathlib.Core.Bool.{not}
 use mathlib.Core.List.{List, [], _∷_}
 use Prim.Native.Nat.{ℕ, suc, pred, _+_, _-_, _≤_, _<_}
 use native.Mathlib.Nat.{le-refl}
@@ -14,14 +14,10 @@ use Rattle.journeys.specs.Service.{Service, GoodService}
 use Rattle.journeys.specs.Journey.{Journey, one, more, rides, RidesOf}
 use Rattle.journeys.specs.Criteria.{Best, Nothing}
 use Rattle.journeys.specs.JourneyLaws.{journey-later, journey-last}
-use Rattle.journeys.specs.TestLaws.{and-then, or-else, and-split, or-split, allb, all-of, goodb, good-of, rideb, ride-of, withinb, T-within}
+use Rattle.journeys.specs.TestLaws.{and-split, or-split, all-of, good-of, ride-of, T-within}
+use Rattle.journeys.specs.Tests.{and-then, or-else, allb, goodb, rideb, withinb}
 use Rattle.example.specs.Cases.{Reply, at, joined, nothing, Case, Says, Holds}
-
--- a list is the rides of a journey
-unfoldable pub ridesb : Service → ℕ → ℕ → ℕ → ℕ → List ℕ → Bool
-ridesb S u v d a [] = false
-ridesb S u v d a (i ∷ []) = rideb S i u v d a
-ridesb S u v d a (i ∷ k ∷ l) = and-then (rideb S i u (S .ride i .to) d (S .ride i .arr)) (λ _. and-then (leb (S .ride i .arr) (S .ride k .dep)) (λ _. ridesb S (S .ride i .to) v (S .ride k .dep) a (k ∷ l)))
+use Rattle.example.specs.CaseTests.{ridesb, freeb, bestb, noneb, saysb, casesb}
 
 rides-of : {S : Service} (u v d a : ℕ) (l : List ℕ) → T (ridesb S u v d a l) → RidesOf S u v d a l
 unfolding ridesb rides
@@ -31,22 +27,14 @@ rides-of {S} u v d a (i ∷ k ∷ l) q =
     let s = and-split (rideb S i u (S .ride i .to) d (S .ride i .arr)) _ q in
     let s₁ = and-split (leb (S .ride i .arr) (S .ride k .dep)) _ (s .1) in
     let r = rides-of (S .ride i .to) v (S .ride k .dep) a (k ∷ l) (s₁ .1) in
-    record { way = more i (ride-of i u (S .ride i .to) d (S .ride i .arr) (s .0)) (leb→le (S .ride i .arr) (S .ride k .dep) (s₁ .0)) (r .way); are = ap (λ m. i ∷ m) (r .are) }
-
--- no journey u to v within t and e
-unfoldable pub freeb : Service → ℕ → ℕ → ℕ → ℕ → Bool
-freeb S u v t e = not (withinb S u v t e)
+    record {
+      way = more i (ride-of i u (S .ride i .to) d (S .ride i .arr) (s .0)) (leb→le (S .ride i .arr) (S .ride k .dep) (s₁ .0)) (r .way);
+      are = ap (λ m. i ∷ m) (r .are);
+    }
 
 free-of : {S : Service} → GoodService S → (u v t e : ℕ) → T (freeb S u v t e) → (d a : ℕ) → Journey S u v d a → t ≤ d → a ≤ e → ⊥
 unfolding freeb
 free-of {S} G u v t e q d a j h k = T-not (withinb S u v t e) q (T-within G (record { dep = d; arr = a; has = j; after = h; before = k }))
-
--- the pair (d, a) of a journey is the best
-unfoldable pub bestb : Service → ℕ → ℕ → Criterion → ℕ → ℕ → Bool
-bestb S u v (Early t) d a = and-then (leb t d) (λ _. and-then (freeb S u v t (pred a)) (λ _. freeb S u v (suc d) a))
-bestb S u v (Late t) d a = and-then (leb a t) (λ _. and-then (freeb S u v (suc d) t) (λ _. freeb S u v d (pred a)))
-bestb S u v (Short t t2) d a = and-then (leb t d) (λ _. and-then (leb a t2) (λ _. and-then (allb (suc t2) (λ s. or-else (ltb s t) (λ _. freeb S u v s (s + pred (a - d)))))
-    (λ _. allb d (λ s. or-else (ltb s t) (λ _. freeb S u v s (s + (a - d)))))))
 
 module _ {S : Service} (G : GoodService S) (u v d a : ℕ) (j : Journey S u v d a) where
   passed : (s t : ℕ) → t ≤ s → T (not (ltb s t))
@@ -82,34 +70,27 @@ module _ {S : Service} (G : GoodService S) (u v d a : ℕ) (j : Journey S u v d 
           (λ _. allb d (λ s. or-else (ltb s t) (λ _. freeb S u v s (s + (a - d)))))))
       s = and-split (leb t d) _ q
 
-      s₁ : T (leb a t2) × T (and-then (allb (suc t2) (λ s. or-else (ltb s t) (λ _. freeb S u v s (s + pred (a - d))))) (λ _. allb d (λ s. or-else (ltb s t) (λ _. freeb S u v s (s + (a - d))))))
+      s₁ : T (leb a t2) × T (and-then (allb (suc t2) (λ s. or-else (ltb s t) (λ _. freeb S u v s (s + pred (a - d)))))
+          (λ _. allb d (λ s. or-else (ltb s t) (λ _. freeb S u v s (s + (a - d))))))
       s₁ = and-split (leb a t2) _ (s .1)
 
-      s₂ : T (allb (suc t2) (λ s. or-else (ltb s t) (λ _. freeb S u v s (s + pred (a - d))))) × T (allb d (λ s. or-else (ltb s t) (λ _. freeb S u v s (s + (a - d)))))
+      s₂ : T (allb (suc t2) (λ s. or-else (ltb s t) (λ _. freeb S u v s (s + pred (a - d))))) ×
+          T (allb d (λ s. or-else (ltb s t) (λ _. freeb S u v s (s + (a - d)))))
       s₂ = and-split (allb (suc t2) (λ s. or-else (ltb s t) (λ _. freeb S u v s (s + pred (a - d))))) _ (s₁ .1)
 
       top′ : (e b : ℕ) → Journey S u v e b → (t ≤ e) × (b ≤ t2) → ¬ ((b + d < a + e) ⊎ ((b + d ≡ a + e) × (e < d)))
       top′ e b k m (inl x) = free-of G u v e (e + pred (a - d))
-          (or-split (ltb e t) _ (all-of (suc t2) _ (s₂ .0) e (omega (arith, journey-later G k))) (passed e t (m .0))) e b k (le-refl e) (omega (arith, journey-later G j, journey-later G k))
+          (or-split (ltb e t) _ (all-of (suc t2) _ (s₂ .0) e (omega (arith, journey-later G k))) (passed e t (m .0))) e b k (le-refl e)
+          (omega (arith, journey-later G j, journey-later G k))
       top′ e b k m (inr x) = free-of G u v e (e + (a - d))
-          (or-split (ltb e t) _ (all-of d _ (s₂ .1) e (omega arith)) (passed e t (m .0))) e b k (le-refl e) (omega (arith, journey-later G j, journey-later G k))
-
--- no journey fits
-unfoldable pub noneb : Service → ℕ → ℕ → Criterion → Bool
-noneb S u v (Early t) = freeb S u v t lastMinute
-noneb S u v (Late t) = freeb S u v 0 t
-noneb S u v (Short t t2) = freeb S u v t t2
+          (or-split (ltb e t) _ (all-of d _ (s₂ .1) e (omega arith)) (passed e t (m .0))) e b k (le-refl e)
+          (omega (arith, journey-later G j, journey-later G k))
 
 none-of : {S : Service} → GoodService S → (u v : ℕ) (c : Criterion) → T (noneb S u v c) → Nothing (Journey S u v) c
 unfolding noneb
 none-of G u v (Early t) q d a j h = free-of G u v t lastMinute q d a j h (journey-last G j)
 none-of G u v (Late t) q d a j h = free-of G u v 0 t q d a j (omega arith) h
 none-of G u v (Short t t2) q d a j h = free-of G u v t t2 q d a j (h .0) (h .1)
-
-unfoldable pub saysb : Service → ℕ → ℕ → Criterion → Reply → Bool
-saysb S u v c (at d a l) = and-then (ridesb S u v d a l) (λ _. bestb S u v c d a)
-saysb S u v c (joined d a i k m) = and-then (ridesb S u v d a (i ∷ k ∷ [])) (λ _. and-then (bestb S u v c d a) (λ _. and-then (eqb (S .ride i .arr) m) (λ _. eqb (S .ride k .dep) m)))
-saysb S u v c nothing = noneb S u v c
 
 says-of : {S : Service} → GoodService S → (u v : ℕ) (c : Criterion) (r : Reply) → T (saysb S u v c r) → Says S u v c r
 unfolding saysb
@@ -124,10 +105,6 @@ says-of {S} G u v c (joined d a i k m) x =
     let r = rides-of {S = S} u v d a (i ∷ k ∷ []) (s .0) in
     (best-of G u v d a (r .way) c (s₁ .0), r, eqb→eq (S .ride i .arr) m (s₂ .0), eqb→eq (S .ride k .dep) m (s₂ .1))
 says-of G u v c nothing x = none-of G u v c x
-
-unfoldable pub casesb : List Case → Bool
-casesb [] = true
-casesb (c ∷ l) = and-then (goodb (c .service)) (λ _. and-then (saysb (c .service) (c .from) (c .to) (c .criterion) (c .reply)) (λ _. casesb l))
 
 pub cases-of : (l : List Case) → T (casesb l) → Holds l
 unfolding casesb

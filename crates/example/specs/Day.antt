@@ -7,9 +7,10 @@ use Rattle.kinds.specs.Limits.{runsRoom, codesRoom}
 use Rattle.words.specs.Bytes.{bytes}
 use Rattle.words.specs.Words.{lf}
 use Rattle.lookup.specs.Lookup.{stopNamed}
-use Rattle.reader.specs.Text.{Outcome, whole, bad, readText, runsOf, codesOf}
+use Rattle.reader.specs.Text.{ReadOutcome, whole, bad, readText, runsOf, codesOf}
 use Rattle.journeys.specs.Service.{Service}
-use Rattle.timetable.specs.Numbers.{serviceOf}
+use Rattle.timetable.specs.Numbers.{givenOf}
+use Rattle.timetable.specs.Slots.{serviceOf}
 
 -- "Lines end in LF (byte 10)."
 abbrev pub textOf : List String → List ℕ
@@ -45,13 +46,13 @@ abbrev pub textWithout2 : List ℕ
 textWithout2 = textWith (without 2 runLines)
 
 -- what the reader reads of a text, into rooms that any text fits
-abbrev pub readWhole : List ℕ → Outcome
+abbrev pub readWhole : List ℕ → ReadOutcome
 readWhole s = readText s runsRoom codesRoom
 
 -- the timetable in force by what was read; a refused text has none
-abbrev pub inForce : Outcome → Service
-inForce (whole b) = serviceOf (b .stops) (b .runs) (b .numbers)
-inForce (bad n p) = serviceOf 0 0 []
+abbrev pub inForce : ReadOutcome → Service
+inForce (whole b) = serviceOf (givenOf (b .stops) (b .runs)) (b .numbers)
+inForce (bad n p) = serviceOf (givenOf 0 0) []
 
 abbrev pub exampleDay : Service
 exampleDay = inForce (readWhole dayText)

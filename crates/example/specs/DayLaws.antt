@@ -16,15 +16,19 @@ use Rattle.loops.specs.FirstOf.{firstOf}
 use Rattle.loops.specs.Fold.{foldTo}
 use Rattle.words.specs.Words.{seekIn, seek, beginsB, isWordB, isDigit, isNumber, valueOf, numberAt, isCode}
 use Rattle.lookup.specs.Lookup.{hasCode, stopIn, stopNamed}
-use Rattle.lines.specs.Lines.{numbersAt, fieldsAt, stopLine, runFields, runLine, lineOf}
-use Rattle.reader.specs.Text.{Outcome, whole, putRun, readFrom, readText, runsOf}
+use Rattle.lines.specs.Lines.{numbersAt, fieldsAt, readStopLine, runFields, readRunLine, lineOf}
+use Rattle.reader.specs.Text.{ReadOutcome, whole, putRun, readFrom, readText, runsOf}
 use Rattle.journeys.specs.Service.{Service, GoodService}
 use Rattle.journeys.specs.Rule.{ByRule}
 use Rattle.journeys.specs.Count.{sumPairs, RuleCount}
-use Rattle.journeys.specs.CountTestLaws.{manyb, firstWith, manyWith, isWithb, amongb, withb, manyFor, countsb, rule-count-of}
-use Rattle.journeys.specs.RuleTestLaws.{undominatedb, viab, someViab, someRideb, labelledb, pivotb, ruleb, sideb, setb, heldb, pairb, soundb, fullb, by-rule-of}
-use Rattle.journeys.specs.TestLaws.{allb, all-of, anyb, goodb, good-of, rideb, startb, reachb, withinb}
-use Rattle.timetable.specs.Numbers.{serviceOf, readRun, refusedRun, judgedOf}
+use Rattle.journeys.specs.CountTestLaws.{rule-count-of}
+use Rattle.journeys.specs.CountTests.{manyb, firstWith, manyWith, isWithb, amongb, withb, manyFor, countsb}
+use Rattle.journeys.specs.RuleTestLaws.{by-rule-of}
+use Rattle.journeys.specs.RuleTests.{undominatedb, viab, someViab, someRideb, labelledb, pivotb, ruleb, sideb, setb, heldb, pairb, soundb, fullb}
+use Rattle.journeys.specs.TestLaws.{all-of, good-of}
+use Rattle.journeys.specs.Tests.{allb, anyb, goodb, rideb, startb, reachb, withinb}
+use Rattle.timetable.specs.Numbers.{givenOf, readRun, refusedRun, judgedOf}
+use Rattle.timetable.specs.Slots.{slotsOf, slotRun, serviceOf}
 use Rattle.timetable.specs.declared.Judged.the-variants as judged
 use Rattle.tables.specs.File.{startOf, labelAt, tablesOf, AreBytes}
 use Rattle.tables.specs.Judged.{follows, goodLabel, badLabel, judgedContents, judgedTables}
@@ -37,26 +41,16 @@ use Rattle.builder.specs.declared.BuildAnswer.{BuildAnswer}
 use Rattle.builder.specs.declared.BuildAnswer.the-variants.{Built}
 use Rattle.example.specs.Day.{dayText, textWithout2, readWhole, inForce, stopCalled, exampleDay, dayNumbers, withoutRun2, dayTables}
 use Rattle.example.specs.Cases.{Holds, casesAtoJ}
-use Rattle.example.specs.CasesLaws.{ridesb, freeb, bestb, noneb, saysb, casesb, cases-of}
+use Rattle.example.specs.CasesLaws.{cases-of}
+use Rattle.example.specs.CaseTests.{ridesb, freeb, bestb, noneb, saysb, casesb}
+use Rattle.example.specs.DayNumbers.{sixRuns, fiveRuns, fourCodes}
 
 -- ---- what is read
 
--- six runs, five of them, and four codes: where each starts and how long it is
-unfoldable pub sixRuns : List ℕ
-sixRuns =
-    1 ∷ 0 ∷ 480 ∷ 500 ∷ 11 ∷ 0 ∷ 2 ∷ 500 ∷ 530 ∷ 12 ∷ 0 ∷ 2 ∷ 510 ∷ 525 ∷ 13 ∷ 3 ∷ 1 ∷ 540 ∷ 560 ∷ 14 ∷ 1 ∷ 2 ∷ 490 ∷ 540 ∷ 15 ∷ 0 ∷ 3 ∷ 505 ∷ 520 ∷ 16 ∷ []
-
-unfoldable pub fiveRuns : List ℕ
-fiveRuns =
-    1 ∷ 0 ∷ 480 ∷ 500 ∷ 11 ∷ 0 ∷ 2 ∷ 500 ∷ 530 ∷ 12 ∷ 3 ∷ 1 ∷ 540 ∷ 560 ∷ 14 ∷ 1 ∷ 2 ∷ 490 ∷ 540 ∷ 15 ∷ 0 ∷ 3 ∷ 505 ∷ 520 ∷ 16 ∷ []
-
-unfoldable pub fourCodes : List ℕ
-fourCodes = 17 ∷ 3 ∷ 26 ∷ 4 ∷ 36 ∷ 6 ∷ 48 ∷ 6 ∷ []
-
-sixRead : Outcome
+sixRead : ReadOutcome
 sixRead = whole (record { line = 12; stops = 4; runs = 6; codes = fourCodes ++ replicate 502 0; numbers = sixRuns ++ replicate 20450 0 })
 
-fiveRead : Outcome
+fiveRead : ReadOutcome
 fiveRead = whole (record { line = 11; stops = 4; runs = 5; codes = fourCodes ++ replicate 502 0; numbers = fiveRuns ++ replicate 20455 0 })
 
 -- zeros after the numbers are as no numbers
@@ -76,37 +70,45 @@ serviceBy stops count at = record {
   ride = λ i. record { from = at (runNumbers * i); to = at (runNumbers * i + 1); dep = at (runNumbers * i + 2); arr = at (runNumbers * i + 3) };
 }
 
-same-service : (stops count : ℕ) (l : List ℕ) (n : ℕ) → serviceOf stops count (l ++ replicate n 0) ≡ serviceOf stops count l
-unfolding serviceOf serviceBy
+same-service : (stops count : ℕ) (l : List ℕ) (n : ℕ) → serviceOf (givenOf stops count) (l ++ replicate n 0) ≡ serviceOf (givenOf stops count) l
+unfolding serviceOf slotsOf slotRun serviceBy
 same-service stops count l n = ap (serviceBy stops count) (fun-ext (zeros-after l n))
 
 -- T and T without run 2, by computing
 both-read : (readWhole dayText ≡ sixRead) × (readWhole textWithout2 ≡ fiveRead)
-unfolding readText readFrom lineOf runLine runFields stopLine fieldsAt numbersAt stopNamed stopIn hasCode isCode numberAt valueOf isNumber isDigit isWordB beginsB
+unfolding readText readFrom lineOf readRunLine runFields readStopLine fieldsAt numbersAt stopNamed
+    stopIn hasCode isCode numberAt valueOf isNumber isDigit isWordB beginsB
     seek seekIn sameB allB putRun isCodeByte isCodeLength runOf sixRead fiveRead sixRuns fiveRuns fourCodes
 both-read = (refl, refl)
 
 -- the reader's answer to T: 4 stops and 6 runs, these numbers and codes, and zeros
-pub day-read : readWhole dayText ≡ whole (record { line = 12; stops = 4; runs = 6; codes = fourCodes ++ replicate 502 0; numbers = sixRuns ++ replicate 20450 0 })
+pub day-read : readWhole dayText ≡ whole (record {
+  line = 12;
+  stops = 4;
+  runs = 6;
+  codes = fourCodes ++ replicate 502 0;
+  numbers = sixRuns ++ replicate 20450 0;
+})
 unfolding sixRead
 day-read = both-read .0
 
 pub stops-called : (stopCalled "HUB" ≡ 0) × (stopCalled "MOOR" ≡ 1) × (stopCalled "QUAY-N" ≡ 2) × (stopCalled "QUAY-S" ≡ 3)
-unfolding stopNamed stopIn hasCode sameB allB fourCodes serviceOf
+unfolding stopNamed stopIn hasCode sameB allB fourCodes serviceOf slotsOf slotRun
 stops-called = rw day-read (refl, refl, refl, refl)
 
-day-is : exampleDay ≡ serviceOf 4 6 sixRuns
+day-is : exampleDay ≡ serviceOf (givenOf 4 6) sixRuns
 unfolding sixRead
 day-is = ap inForce (both-read .0) ∙ same-service 4 6 sixRuns 20450
 
-without2-is : withoutRun2 ≡ serviceOf 4 5 fiveRuns
+without2-is : withoutRun2 ≡ serviceOf (givenOf 4 5) fiveRuns
 unfolding fiveRead
 without2-is = ap inForce (both-read .1) ∙ same-service 4 5 fiveRuns 20455
 
 -- "Proved cases on T"
 pub cases-hold : Holds (casesAtoJ exampleDay withoutRun2)
-unfolding casesb goodb saysb noneb bestb freeb ridesb rideb allb withinb reachb anyb startb serviceOf sixRuns fiveRuns
-cases-hold = subst₂ (λ (S R : Service). Holds (casesAtoJ S R)) (sym day-is) (sym without2-is) (cases-of (casesAtoJ (serviceOf 4 6 sixRuns) (serviceOf 4 5 fiveRuns)) tt)
+unfolding casesb goodb saysb noneb bestb freeb ridesb rideb allb withinb reachb anyb startb serviceOf slotsOf slotRun sixRuns fiveRuns
+cases-hold = subst₂ (λ (S R : Service). Holds (casesAtoJ S R)) (sym day-is) (sym without2-is)
+    (cases-of (casesAtoJ (serviceOf (givenOf 4 6) sixRuns) (serviceOf (givenOf 4 5) fiveRuns)) tt)
 
 -- ---- its tables
 
@@ -114,16 +116,17 @@ tables-judged : judgedTables dayTables ≡ Good 4
 unfolding judgedTables judgedContents badLabel goodLabel follows labelOf isStopCount startOf labelAt firstOf
 tables-judged = refl
 
-day-good : GoodService (serviceOf 4 6 sixRuns)
-unfolding goodb allb serviceOf sixRuns
-day-good = good-of (serviceOf 4 6 sixRuns) tt
+day-good : GoodService (serviceOf (givenOf 4 6) sixRuns)
+unfolding goodb allb serviceOf slotsOf slotRun sixRuns
+day-good = good-of (serviceOf (givenOf 4 6) sixRuns) tt
 
-by-rule : ByRule (serviceOf 4 6 sixRuns) (tablesOf dayTables)
-unfolding soundb fullb pairb heldb setb sideb ruleb pivotb labelledb someRideb someViab viab undominatedb rideb allb anyb withinb reachb startb serviceOf sixRuns tablesOf startOf labelAt
+by-rule : ByRule (serviceOf (givenOf 4 6) sixRuns) (tablesOf dayTables)
+unfolding soundb fullb pairb heldb setb sideb ruleb pivotb labelledb someRideb someViab viab undominatedb
+    rideb allb anyb withinb reachb startb serviceOf slotsOf slotRun sixRuns tablesOf startOf labelAt
 by-rule = by-rule-of day-good (tablesOf dayTables) tt tt
 
-rule-file : RuleFile (serviceOf 4 6 sixRuns) dayTables
-unfolding serviceOf
+rule-file : RuleFile (serviceOf (givenOf 4 6) sixRuns) dayTables
+unfolding serviceOf slotsOf slotRun
 rule-file = record { good = tables-judged; rule = by-rule }
 
 -- "Its tables": the rule's file of T
@@ -132,8 +135,8 @@ day-tables = subst (λ (S : Service). RuleFile S dayTables) (sym day-is) rule-fi
 
 -- ---- what is built of its numbers
 
-rule-count : RuleCount (serviceOf 4 6 sixRuns) 6
-unfolding sumPairs foldTo manyFor countsb withb amongb isWithb manyWith firstWith manyb allb serviceOf tablesOf startOf labelAt
+rule-count : RuleCount (serviceOf (givenOf 4 6) sixRuns) 6
+unfolding sumPairs foldTo manyFor countsb withb amongb isWithb manyWith firstWith manyb allb serviceOf slotsOf slotRun tablesOf startOf labelAt
 rule-count = rule-count-of by-rule (good-tables (judged-good dayTables 4 tables-judged)) refl tt
 
 are-bytes : AreBytes dayTables
@@ -145,7 +148,7 @@ are-bytes i = go (decLt i 54)
     go (no h) = omega (arith, List·getD-eq-default dayTables 0 {n = i} (omega arith))
 
 numbers-are : dayNumbers ≡ sixRuns ++ replicate 20450 0
-numbers-are = ap (λ (o : Outcome). runsOf o runsRoom) day-read
+numbers-are = ap (λ (o : ReadOutcome). runsOf o runsRoom) day-read
 
 long : 30 ≤ length (sixRuns ++ replicate 20450 0)
 unfolding sixRuns
@@ -155,19 +158,21 @@ none-refused : firstOf (refusedRun 4 (sixRuns ++ replicate 20450 0)) 6 ≡ none
 unfolding firstOf readRun runOf sixRuns
 none-refused = refl
 
-good-numbers : (l : List ℕ) (work : ℕ) → 30 ≤ length l → buildRoom ≤ work → firstOf (refusedRun 4 l) 6 ≡ none → judgedOf 4 6 l work buildRoom ≡ judged.Good
+good-numbers : (l : List ℕ) (work : ℕ) → 30 ≤ length l → buildRoom ≤ work → firstOf (refusedRun 4 l) 6 ≡ none →
+    judgedOf (givenOf 4 6) l work buildRoom ≡ judged.Good
 unfolding judgedOf isStopCount isRunCount
 good-numbers l work h k e = rw (le-leb 30 (length l) h, le-leb buildRoom work k, e)
 
-built-of : (lent : ℕ) → 54 ≤ lent → BuiltOf (serviceOf 4 6 sixRuns) lent (Built 54 6) (dayTables ++ replicate (lent - 54) 0)
-unfolding serviceOf
+built-of : (lent : ℕ) → 54 ≤ lent → BuiltOf (serviceOf (givenOf 4 6) sixRuns) lent (Built 54 6) (dayTables ++ replicate (lent - 54) 0)
+unfolding serviceOf slotsOf slotRun
 built-of lent h = built 6 dayTables rule-count (omega arith) h rule-file refl refl refl
 
 -- any build of T's numbers, where there is room, gives these 54 bytes and tells of 6 labels; zeros follow
-pub day-built : {work lent : ℕ} {answer : BuildAnswer} {tables : List ℕ} → buildRoom ≤ work → 54 ≤ lent → AreBytes tables → BuildOf 4 6 dayNumbers work lent answer tables →
+pub day-built : {work lent : ℕ} {answer : BuildAnswer} {tables : List ℕ} → buildRoom ≤ work → 54 ≤ lent → AreBytes tables →
+    BuildOf (givenOf 4 6) dayNumbers work lent answer tables →
     (answer ≡ Built 54 6) × (tables ≡ dayTables ++ replicate (lent - 54) 0)
 day-built {work} {lent} {answer} {tables} w l x b =
     build-one x (λ i. subst (λ (y : ℕ). y < 256) (sym (zeros-after dayTables (lent - 54) i)) (are-bytes i))
-    (subst (λ (r : List ℕ). BuildOf 4 6 r work lent answer tables) numbers-are b)
+    (subst (λ (r : List ℕ). BuildOf (givenOf 4 6) r work lent answer tables) numbers-are b)
     (good (good-numbers _ work long w none-refused)
     (subst (λ (S : Service). BuiltOf S lent (Built 54 6) (dayTables ++ replicate (lent - 54) 0)) (sym (same-service 4 6 sixRuns 20450)) (built-of lent l)))

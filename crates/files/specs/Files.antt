@@ -15,9 +15,13 @@ abbrev pub ReadWithin : ℕ → FileRead → Type 0
 ReadWithin room (Read n) = n ≤ room
 ReadWithin room No = Unit
 
+-- a number below 100 with two digits
+abbrev pub twoDigits : ℕ → List ℕ
+twoDigits k = digit (k / 10) ∷ digit (k % 10) ∷ []
+
 -- "Tables are written to a temporary name and renamed": "day.tables.part07", by a number of two digits
 abbrev pub partName : List ℕ → ℕ → List ℕ
-partName path k = path ++ (bytes ".part" ++ (digit (k / 10) ∷ digit (k % 10) ∷ []))
+partName path k = path ++ (bytes ".part" ++ twoDigits k)
 
 -- so many bytes more than the file's own name
 abbrev pub partMore : ℕ

@@ -1,16 +1,16 @@
 -- Laws of the names of files that are written.
 use Prim.Native.Nat.{ℕ, _+_, _≤_}
-use mathlib.Core.Path.{_≡_, refl, sym}
-use mathlib.Core.List.{List, [], _∷_}
+use mathlib.Core.Path.{_≡_, sym}
+use mathlib.Core.List.{List, _++_}
 use mathlib.Core.Bool.{Bool, true, false, cond}
 use native.Mathlib.Omega.{arith}
-use lib.ListN.{length, set}
+use lib.ListN.{length, length-append}
 use lib.Seq.{length-take-le}
 use lib.Dec.{eqb, leb}
 use borrow.Author.Tests.{leb-true}
 use Rattle.io.specs.Counts.{Counts}
-use Rattle.printed.specs.Wrote.{Wrote}
-use Rattle.files.specs.Files.{nameMost, isName}
+use Rattle.words.specs.Bytes.{bytes}
+use Rattle.files.specs.Files.{twoDigits, partName, partMore, nameMost, isName}
 
 pub name-short : (n : ℕ) → isName n ≡ true → n ≤ nameMost
 name-short n e = go (eqb n 0) e
@@ -19,9 +19,8 @@ name-short n e = go (eqb n 0) e
     go true f = let z : _≡_ {A = ℕ} 0 1 = cc in absurd (omega arith)
     go false f = leb-true n nameMost f
 
--- two bytes, one after the other
-pub wrote-two : (l : List ℕ) (i x y : ℕ) → Wrote l i (x ∷ y ∷ []) (set (set l i x) (i + 1) y) (i + 2)
-wrote-two l i x y = record { is = refl; end = refl }
+pub part-long : (path : List ℕ) (k : ℕ) → length (partName path k) ≡ length path + partMore
+part-long path k = length-append path (bytes ".part" ++ twoDigits k)
 
 pub not-both : (b : Bool) → b ≡ true → b ≡ false → ⊥
 not-both b e f = let z : _≡_ {A = ℕ} 0 1 = cc in omega arith

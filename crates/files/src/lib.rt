@@ -11,7 +11,7 @@ ghost use lib.Dec.{eqb};
 ghost use lib.ListN.{length};
 ghost use Rattle.io.specs.Counts.{Counts};
 ghost use Rattle.printed.specs.Wrote.{Wrote};
-ghost use Rattle.files.specs.Files.{ReadWithin, PartWithin, partName, partMore, mostParts, nameMost, isName, isWhole};
+ghost use Rattle.files.specs.Files.{ReadWithin, PartWithin, twoDigits, partName, partMore, mostParts, nameMost, isName, isWhole};
 
 // What came of reading: so many bytes, at most as many as the buffer has; or the file cannot be read.
 pub enum FileRead {
@@ -45,6 +45,13 @@ fn say(first: &[u8], name: &[u8], last: &[u8]) {
     io::write_all(STDOUT_FILENO, name);
     io::write_all(STDOUT_FILENO, last);
     io::write_all(STDOUT_FILENO, b"\n");
+}
+
+// The first n bytes of what was made ready, on standard output.
+pub fn tell(out: &[u8], n: usize)
+    requires { ⌜ n ≤ length (now out) ⌝ }
+{
+    io::write_all(STDOUT_FILENO, &out[..n]);
 }
 
 // ---- Reading.
@@ -98,7 +105,7 @@ fn say_more(name: &[u8], most: u32)
 {
     let mut out = [0u8; libc::PATH_MAX + report::LINE_ROOM];
     let n = report::more_line(&mut out, 0, name, most);
-    io::write_all(STDOUT_FILENO, &out[..n]);
+    tell(&out, n);
 }
 
 // The file that argument i names, into the buffer. One that has more bytes than it may have is told of; the buffer has room for one byte more, which
@@ -119,6 +126,17 @@ pub fn read_named(i: usize, most: u32, buf: &mut [u8]) -> FileRead
 
 // ---- Writing.
 
+// The number's two digits.
+fn put_two(name: &mut [u8], at: usize, k: u8) -> usize
+    requires { ⌜ at + 2 ≤ length (now name) ⌝ }
+    requires { ⌜ k < mostParts ⌝ }
+    ensures { λ r. ⌜ Wrote (now (name .entry)) at (twoDigits k) (now (name .exit)) r ⌝ }
+{
+    name[at] = b'0' + k / 10;
+    name[at + 1] = b'0' + k % 10;
+    at + 2
+}
+
 // The name under which a file is written first: its own, ".part" and the number's two digits.
 fn part_name(path: &[u8], k: u8, name: &mut [u8]) -> usize
     requires { ⌜ length (now path) + partMore ≤ length (now name) ⌝ }
@@ -128,9 +146,7 @@ fn part_name(path: &[u8], k: u8, name: &mut [u8]) -> usize
 {
     let a = put_part(name, 0, path, 0, path.len());
     let b = put_part(name, a, b".part", 0, 5);
-    name[b] = b'0' + k / 10;
-    name[b + 1] = b'0' + k % 10;
-    b + 2
+    put_two(name, b, k)
 }
 
 // Makes the file of this first name, and answers a descriptor, or a negative number, as where there is such a file.

@@ -5,7 +5,7 @@ use mathlib.Core.Path.{_≡_}
 use mathlib.Core.List.{List}
 use lib.ListN.{length}
 use Rattle.handing.specs.declared.Failure.{Failure}
-use Rattle.output.specs.Output.{OutputOf}
+use Rattle.journey_lines.specs.Output.{OutputOf}
 use Rattle.sending.specs.declared.Sent.{Sent}
 use Rattle.sending.specs.declared.Sent.the-variants.{All, Cut}
 

@@ -6,9 +6,9 @@ use Rattle.kinds.specs.Limits.{runsRoom, codesRoom}
 use Rattle.tables.specs.File.{fileRoom, AreBytes}
 use Rattle.reader.specs.Text.{runsOf, codesOf}
 use Rattle.builder.specs.Build.{buildRoom}
-use Rattle.output.specs.declared.Stage.{Stage}
-use Rattle.output.specs.Output.{readInput, StartOf, Prints}
-use Rattle.output.specs.OutputLaws.{start-output, output-start}
+use Rattle.journey_lines.specs.declared.Stage.{Stage}
+use Rattle.journey_lines.specs.Output.{readInput, StartOf, Prints}
+use Rattle.journey_lines.specs.OutputLaws.{start-output, output-start}
 use Rattle.sending.specs.Sent.{SentFrom}
 use Rattle.journey.specs.Sent.{SentFor}
 use Rattle.sending.specs.declared.Sent.{Sent}

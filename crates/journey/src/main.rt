@@ -1,4 +1,4 @@
-// Reads a timetable and ask lines from standard input, and prints what they get. Which lines are printed is fixed in the crate `output`: here they
+// Reads a timetable and ask lines from standard input, and prints what they get. Which lines are printed is fixed in the crate `journey_lines`: here they
 // are handed on, one after the other.
 use builder::Work;
 use kinds::Minute;
@@ -16,7 +16,7 @@ fn answer(input: &[u8]) -> Sent
     let mut codes = [0u32; Stop::CODES_ROOM];
     let mut tables = [0u8; tables::FILE_ROOM];
     let mut work = [0u16; Work::ROOM];
-    let first = output::start(input, &mut runs, &mut codes, &mut tables, &mut work);
+    let first = journey_lines::start(input, &mut runs, &mut codes, &mut tables, &mut work);
     let mut list = [0u32; Minute::LAST as usize];
     let mut out = [0u8; printed::LINE_ROOM];
     sending::print(input, &runs, &codes, &tables, first, &mut list, &mut out)

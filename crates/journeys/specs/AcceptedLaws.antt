@@ -9,7 +9,8 @@ use Prim.Native.Nat.{ℕ, zero, suc, _+_, _≤_, _<_}
 use native.Mathlib.Nat.{le-refl}
 use native.Mathlib.Omega.{arith}
 use native.Mathlib.Decide.{ℕ-discrete, decLe, decLt}
-use Rattle.loops.specs.Decide.{any-below, dec-then, dec-map, dec-not}
+use Rattle.loops.specs.DecideLaws.{dec-not}
+use Rattle.loops.specs.Decide.{dec-true, any-below, dec-then, dec-map}
 use Rattle.kinds.specs.Limits.{lastMinute}
 use Rattle.journeys.specs.declared.Criterion.{Criterion}
 use Rattle.journeys.specs.declared.Criterion.the-variants.{Early}
@@ -20,8 +21,9 @@ use Rattle.journeys.specs.Tables.{Side, outs, ins, Tables, Entry, of-out
 use Rattle.journeys.specs.Check.{Halves, Supported, SupportedAt, AllSupported, NoGap, NoGapAt, NoGaps, Accepted, Unsupported, Missed}
 use Rattle.journeys.specs.PairLaws.{itself, wider}
 use Rattle.journeys.specs.CriteriaLaws.{best-same, nothing-same, early-best, early-least, early-within}
-use Rattle.journeys.specs.JourneyLaws.{join, journey-later, ride-to}
-use Rattle.journeys.specs.ReachLaws.{dec-true, dec-some-ride}
+use Rattle.journeys.specs.JourneyLaws.{journey-later, ride-to}
+use Rattle.journeys.specs.Paths.{join, NoGapWithin}
+use Rattle.journeys.specs.ReachLaws.{dec-some-ride}
 use Rattle.journeys.specs.SketchLaws.{entry-at, label-later, one-by-dep, one-by-arr, sketch-later, sketch-last, sketch-to, dec-sketch, dec-label}
 
 -- L2: a supported label has a journey with exactly its pair, by the label's duration; so has each sketch
@@ -44,11 +46,6 @@ module _ {S : Service} {T : Tables} (good : GoodTables T) (sup : AllSupported S 
   pub sketch-sound : {u v d a : ℕ} → Sketch T u v d a → Journey S u v d a
   sketch-sound (single p l) = label-sound l
   sketch-sound (joined h J) = join (label-sound (J .first, of-out (J .out-label))) (J .meets) (label-sound (J .second, of-in (J .in-label)))
-
--- no gap, by what lies within two minutes: the form that the proofs use
-pub record NoGapWithin (T : Tables) (u x d a v : ℕ) : Type 0 where
-  pub here : v ≡ x → Within (Sketch T u x) d a
-  pub on : v ≢ x → (c e : ℕ) → Sketch T x v c e → a ≤ c → Within (Sketch T u v) d e
 
 module _ {T : Tables} (good : GoodTables T) where
   -- the tables' early, where anything lies within
@@ -88,15 +85,19 @@ module _ {S : Service} (G : GoodService S) {T : Tables} (good : GoodTables T) (s
       step (no m) ih = on (ih m)
         where
           on : Within (Sketch T x v) c a → Within (Sketch T u v) d a
-          on w = wider (gapless v (omega (arith, sketch-to good (w .has), same)) r n .on m (w .dep) (w .arr) (w .has) (omega (arith, w .after))) (le-refl d) (w .before)
+          on w = wider (gapless v (omega (arith, sketch-to good (w .has), same)) r n .on m (w .dep) (w .arr) (w .has) (omega (arith, w .after))) (le-refl d)
+              (w .before)
 
 -- demand 3: over accepted tables each criterion's best sketch is the timetable's best, and there is none just when no journey fits
-module _ {S : Service} (G : GoodService S) {T : Tables} (good : GoodTables T) (same : T .stops ≡ S .stops) (ok : Accepted S T) {u v : ℕ} (apart : u ≢ v) (c : Criterion) where
+module _ {S : Service} (G : GoodService S) {T : Tables} (good : GoodTables T) (same : T .stops ≡ S .stops) (ok : Accepted S T) {u v : ℕ} (apart : u ≢ v)
+    (c : Criterion) where
   pub accepted-best : (d a : ℕ) → Best (Sketch T u v) c d a ↔ Best (Journey S u v) c d a
-  accepted-best = best-same (Sketch T u v) (Journey S u v) (λ e b s. sketch-sound good (ok .supported) s) (λ e b j. complete G good same (ok .no-gaps) j (λ q. apart (sym q))) c
+  accepted-best = best-same (Sketch T u v) (Journey S u v) (λ e b s. sketch-sound good (ok .supported) s)
+      (λ e b j. complete G good same (ok .no-gaps) j (λ q. apart (sym q))) c
 
   pub accepted-nothing : Nothing (Sketch T u v) c ↔ Nothing (Journey S u v) c
-  accepted-nothing = nothing-same (Sketch T u v) (Journey S u v) (λ e b s. sketch-sound good (ok .supported) s) (λ e b j. complete G good same (ok .no-gaps) j (λ q. apart (sym q))) c
+  accepted-nothing = nothing-same (Sketch T u v) (Journey S u v) (λ e b s. sketch-sound good (ok .supported) s)
+      (λ e b j. complete G good same (ok .no-gaps) j (λ q. apart (sym q))) c
 
 module _ {S : Service} {T : Tables} (good : GoodTables T) where
   -- a gap at a ride is found by two questions
@@ -106,7 +107,10 @@ module _ {S : Service} {T : Tables} (good : GoodTables T) where
   gap-missed sup {i} {v} r n f = go (ℕ-discrete v (S .ride i .to))
     where
       far : v ≢ S .ride i .to → Dec (Within (Sketch T (S .ride i .to) v) (S .ride i .arr) lastMinute) → Missed S T i v
-      far m (no q) = absurd (f (record { here = λ e. absurd (m e); on = λ _ B. absurd (q (early-within B (sketch-last good (B .dep) (B .arr) (B .best .has)))) }))
+      far m (no q) = absurd (f (record {
+        here = λ e. absurd (m e);
+        on = λ _ B. absurd (q (early-within B (sketch-last good (B .dep) (B .arr) (B .best .has))));
+      }))
       far m (yes w) = at (sketch-early good w .0)
         where
           at : Answer (Sketch T (S .ride i .to) v) (Early (S .ride i .arr)) → Missed S T i v
@@ -184,10 +188,12 @@ module _ {S : Service} (G : GoodService S) {T : Tables} (good : GoodTables T) wh
   dec-entry side k s = dec-map (λ x. entry-at (x .0) (x .1 .0) (x .1 .1)) (λ x. (x .owner, (x .low, x .high)))
       (dec-then (decLt s (T .stops)) (λ _. dec-then (decLe (T .start side s) k) (λ _. decLt k (T .end side s))))
 
-  dec-out-fault : (k s : ℕ) → Dec (Entry T outs k s (T .hub k) (T .dep k) (T .arr k) (T .pivot k) × ¬ (Supported S T s (T .hub k) (T .dep k) (T .arr k) (T .pivot k)))
+  dec-out-fault : (k s : ℕ) → Dec (Entry T outs k s (T .hub k) (T .dep k) (T .arr k) (T .pivot k) ×
+      ¬ (Supported S T s (T .hub k) (T .dep k) (T .arr k) (T .pivot k)))
   dec-out-fault k s = dec-then (dec-entry outs k s) (λ _. dec-not (dec-supported s (T .hub k) (T .dep k) (T .arr k) (T .pivot k)))
 
-  dec-in-fault : (k s : ℕ) → Dec (Entry T ins k s (T .hub k) (T .dep k) (T .arr k) (T .pivot k) × ¬ (Supported S T (T .hub k) s (T .dep k) (T .arr k) (T .pivot k)))
+  dec-in-fault : (k s : ℕ) → Dec (Entry T ins k s (T .hub k) (T .dep k) (T .arr k) (T .pivot k) ×
+      ¬ (Supported S T (T .hub k) s (T .dep k) (T .arr k) (T .pivot k)))
   dec-in-fault k s = dec-then (dec-entry ins k s) (λ _. dec-not (dec-supported (T .hub k) s (T .dep k) (T .arr k) (T .pivot k)))
 
   pub unsupported-real : {k : ℕ} → ¬ (SupportedAt S T k) → Unsupported S T k
@@ -197,12 +203,16 @@ module _ {S : Service} (G : GoodService S) {T : Tables} (good : GoodTables T) wh
       sure (yes a) n = a
       sure (no m) n = absurd (n m)
 
-      go : Dec ((s : ℕ) × (s < T .stops) × (Entry T outs k s (T .hub k) (T .dep k) (T .arr k) (T .pivot k) × ¬ (Supported S T s (T .hub k) (T .dep k) (T .arr k) (T .pivot k)))) →
-          Dec ((s : ℕ) × (s < T .stops) × (Entry T ins k s (T .hub k) (T .dep k) (T .arr k) (T .pivot k) × ¬ (Supported S T (T .hub k) s (T .dep k) (T .arr k) (T .pivot k)))) → Unsupported S T k
+      go : Dec ((s : ℕ) × (s < T .stops) × (Entry T outs k s (T .hub k) (T .dep k) (T .arr k) (T .pivot k) ×
+          ¬ (Supported S T s (T .hub k) (T .dep k) (T .arr k) (T .pivot k)))) →
+          Dec ((s : ℕ) × (s < T .stops) × (Entry T ins k s (T .hub k) (T .dep k) (T .arr k) (T .pivot k) ×
+          ¬ (Supported S T (T .hub k) s (T .dep k) (T .arr k) (T .pivot k)))) → Unsupported S T k
       go (yes x) y = record { from = x .0; to = T .hub k; dep = T .dep k; arr = T .arr k; pivot = T .pivot k; label = of-out (x .2 .0); lacks = x .2 .1 }
       go (no m) (yes y) = record { from = T .hub k; to = y .0; dep = T .dep k; arr = T .arr k; pivot = T .pivot k; label = of-in (y .2 .0); lacks = y .2 .1 }
       go (no m) (no n) = absurd (f fine)
         where
           fine : SupportedAt S T k
-          fine u v d a p (of-out e) = sure (dec-supported u v d a p) (λ q. m (u, e .owner, (entry-at (e .owner) (e .low) (e .high), rw (e .hub, e .dep, e .arr, e .pivot) q)))
-          fine u v d a p (of-in e) = sure (dec-supported u v d a p) (λ q. n (v, e .owner, (entry-at (e .owner) (e .low) (e .high), rw (e .hub, e .dep, e .arr, e .pivot) q)))
+          fine u v d a p (of-out e) = sure (dec-supported u v d a p)
+              (λ q. m (u, e .owner, (entry-at (e .owner) (e .low) (e .high), rw (e .hub, e .dep, e .arr, e .pivot) q)))
+          fine u v d a p (of-in e) = sure (dec-supported u v d a p)
+              (λ q. n (v, e .owner, (entry-at (e .owner) (e .low) (e .high), rw (e .hub, e .dep, e .arr, e .pivot) q)))

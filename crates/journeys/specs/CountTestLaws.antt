@@ -1,9 +1,9 @@
 -- How many labels the rule has, by tests that compute over tables by the rule.
 use mathlib.Core.Path.{_≡_, refl}
 use mathlib.Core.Logic.{_↔_}
-use mathlib.Core.Bool.{Bool, not, cond}
+use mathlib.Core.Bool.{not, cond}
 use mathlib.Core.Option.{Option}
-use Prim.Native.Nat.{ℕ, zero, suc, _+_, _-_, _≤_, _<_}
+use Prim.Native.Nat.{ℕ, _+_, _-_, _≤_, _<_}
 use native.Mathlib.Omega.{arith}
 use native.Mathlib.Decide.{decLt}
 use lib.Dec.{T, leb, ltb, eqb, leb→le, le→leb, eqb→eq, ltb→lt, lt→ltb, T-not, not-T}
@@ -11,43 +11,10 @@ use borrow.Author.Tests.{lt-ltb, le-ltb}
 use Rattle.journeys.specs.Service.{Service}
 use Rattle.journeys.specs.Tables.{Side, outs, ins, Tables, Entry, GoodTables}
 use Rattle.journeys.specs.Rule.{Rule, ByRule}
-use Rattle.journeys.specs.Count.{Timed, PairLabels, sumPairs, RuleCount}
-use Rattle.journeys.specs.TestLaws.{and-then, or-else, T-and, and-split, or-split, T-same, allb, all-of}
-
--- how many numbers below n pass
-unfoldable pub manyb : ℕ → (ℕ → Bool) → ℕ
-manyb zero p = 0
-manyb (suc n) p = cond (p n) 1 0 + manyb n p
-
--- the labels of a set with hub h stand from here on, and are so many
-unfoldable pub firstWith : Tables → Side → ℕ → ℕ → ℕ
-firstWith X side s h = X .start side s + manyb (X .end side s) (λ k. and-then (leb (X .start side s) k) (λ _. ltb (X .hub k) h))
-
-unfoldable pub manyWith : Tables → Side → ℕ → ℕ → ℕ
-manyWith X side s h = manyb (X .end side s) (λ k. and-then (leb (X .start side s) k) (λ _. eqb (X .hub k) h))
-
--- they do: label k is one; label k, if it is one, is among them
-unfoldable pub isWithb : Tables → Side → ℕ → ℕ → ℕ → Bool
-isWithb X side s h k = and-then (leb (X .start side s) k) (λ _. and-then (ltb k (X .end side s)) (λ _. eqb (X .hub k) h))
-
-unfoldable pub amongb : Tables → Side → ℕ → ℕ → ℕ → Bool
-amongb X side s h k = or-else (not (isWithb X side s h k)) (λ _. and-then (leb (firstWith X side s h) k) (λ _. ltb k (firstWith X side s h + manyWith X side s h)))
-
-unfoldable pub withb : Tables → Side → ℕ → ℕ → Bool
-withb X side s h = and-then (allb (manyWith X side s h) (λ i. isWithb X side s h (firstWith X side s h + i))) (λ _. allb (X .end side s) (amongb X side s h))
-
-unfoldable pub rowWith : Tables → Side → ℕ → ℕ → ℕ → Timed
-rowWith X side s h i = let k = firstWith X side s h + i in record { dep = X .dep k; arr = X .arr k; pivot = X .pivot k }
-
--- the labels u to v: an out-label's owner is u, an in-label's v
-unfoldable pub manyFor : Tables → ℕ → ℕ → ℕ
-manyFor X u v = cond (ltb v u) (manyWith X outs u v) (manyWith X ins v u)
-
-unfoldable pub rowFor : Tables → ℕ → ℕ → ℕ → Timed
-rowFor X u v = cond (ltb v u) (rowWith X outs u v) (rowWith X ins v u)
-
-unfoldable pub countsb : Tables → Bool
-countsb X = allb (X .stops) (λ s. allb (X .stops) (λ h. and-then (withb X outs s h) (λ _. withb X ins s h)))
+use Rattle.journeys.specs.Count.{PairLabels, sumPairs, RuleCount}
+use Rattle.journeys.specs.TestLaws.{T-and, and-split, or-split, T-same, all-of}
+use Rattle.journeys.specs.Tests.{and-then, allb}
+use Rattle.journeys.specs.CountTests.{firstWith, manyWith, isWithb, amongb, withb, rowWith, manyFor, rowFor, countsb}
 
 module _ {X : Tables} (good : GoodTables X) where
   is-with : (side : Side) (s h k : ℕ) → s < X .stops → T (isWithb X side s h k) → Entry X side k s h (X .dep k) (X .arr k) (X .pivot k)
@@ -68,7 +35,8 @@ module _ {X : Tables} (good : GoodTables X) where
   T-with : {side : Side} {k s h d a : ℕ} {p : Option ℕ} → Entry X side k s h d a p → T (isWithb X side s h k)
   unfolding isWithb
   T-with {side} {k} {s} {h} e =
-      T-and (leb (X .start side s) k) _ (le→leb (X .start side s) k (e .low)) (T-and (ltb k (X .end side s)) _ (lt→ltb k (X .end side s) (e .high)) (T-same (X .hub k) h (e .hub)))
+      T-and (leb (X .start side s) k) _ (le→leb (X .start side s) k (e .low))
+      (T-and (ltb k (X .end side s)) _ (lt→ltb k (X .end side s) (e .high)) (T-same (X .hub k) h (e .hub)))
 
   -- the labels of a set with hub h, where they are all the labels u to v
   module _ {S : Service} (side : Side) (s h u v : ℕ) (l : s < X .stops) (q : T (withb X side s h))
@@ -77,9 +45,11 @@ module _ {X : Tables} (good : GoodTables X) where
     unfolding withb
     two = and-split (allb (manyWith X side s h) (λ i. isWithb X side s h (firstWith X side s h + i))) (λ _. allb (X .end side s) (amongb X side s h)) q
 
-    row-entry : (i : ℕ) → i < manyWith X side s h → Entry X side (firstWith X side s h + i) s h (rowWith X side s h i .dep) (rowWith X side s h i .arr) (rowWith X side s h i .pivot)
+    row-entry : (i : ℕ) → i < manyWith X side s h → Entry X side (firstWith X side s h + i) s h (rowWith X side s h i .dep) (rowWith X side s h i .arr)
+        (rowWith X side s h i .pivot)
     unfolding rowWith
-    row-entry i lt = is-with side s h (firstWith X side s h + i) l (all-of (manyWith X side s h) (λ i. isWithb X side s h (firstWith X side s h + i)) (two .0) i lt)
+    row-entry i lt = is-with side s h (firstWith X side s h + i) l
+        (all-of (manyWith X side s h) (λ i. isWithb X side s h (firstWith X side s h + i)) (two .0) i lt)
 
     entry-among : {k d a : ℕ} {p : Option ℕ} → Entry X side k s h d a p → (firstWith X side s h ≤ k) × (k < firstWith X side s h + manyWith X side s h)
     unfolding amongb
@@ -89,7 +59,8 @@ module _ {X : Tables} (good : GoodTables X) where
         let t₁ = and-split (leb (firstWith X side s h) k) _ t in
         (leb→le (firstWith X side s h) k (t₁ .0), ltb→lt k (firstWith X side s h + manyWith X side s h) (t₁ .1))
 
-    row-at : {k d a : ℕ} {p : Option ℕ} → Entry X side k s h d a p → firstWith X side s h ≤ k → rowWith X side s h (k - firstWith X side s h) ≡ record { dep = d; arr = a; pivot = p }
+    row-at : {k d a : ℕ} {p : Option ℕ} → Entry X side k s h d a p → firstWith X side s h ≤ k →
+        rowWith X side s h (k - firstWith X side s h) ≡ record { dep = d; arr = a; pivot = p }
     unfolding rowWith
     row-at {k} e le = let z : firstWith X side s h + (k - firstWith X side s h) ≡ k = omega arith in rw (z, e .dep, e .arr, e .pivot)
 
@@ -105,14 +76,16 @@ module _ {S : Service} {X : Tables} (R : ByRule S X) (good : GoodTables X) (same
   both : (s h : ℕ) → s < S .stops → h < S .stops → T (withb X outs s h) × T (withb X ins s h)
   unfolding countsb
   both s h l m = and-split (withb X outs s h) (λ _. withb X ins s h)
-      (all-of (X .stops) (λ h. and-then (withb X outs s h) (λ _. withb X ins s h)) (all-of (X .stops) (λ s. allb (X .stops) (λ h. and-then (withb X outs s h) (λ _. withb X ins s h))) q s (omega arith)) h (omega arith))
+      (all-of (X .stops) (λ h. and-then (withb X outs s h) (λ _. withb X ins s h))
+      (all-of (X .stops) (λ s. allb (X .stops) (λ h. and-then (withb X outs s h) (λ _. withb X ins s h))) q s (omega arith)) h (omega arith))
 
   pair-labels : (u v : ℕ) → u < S .stops → v < S .stops → PairLabels S u v (manyFor X u v) (rowFor X u v)
   unfolding manyFor rowFor
   pair-labels u v l m = go (decLt v u)
     where
       go : Dec (v < u) → PairLabels S u v (cond (ltb v u) (manyWith X outs u v) (manyWith X ins v u)) (cond (ltb v u) (rowWith X outs u v) (rowWith X ins v u))
-      go (yes h) = rw (lt-ltb v u h) (labels-of good outs u v u v (omega arith) (both u v l m .0) (λ d a p. ((λ e. R .out-rule u v d a p .0 e .1), (λ r. R .out-rule u v d a p .1 (h, r)))))
+      go (yes h) = rw (lt-ltb v u h) (labels-of good outs u v u v (omega arith) (both u v l m .0)
+          (λ d a p. ((λ e. R .out-rule u v d a p .0 e .1), (λ r. R .out-rule u v d a p .1 (h, r)))))
       go (no h) = rw (le-ltb v u (omega arith)) (labels-of good ins v u u v (omega arith) (both v u m l .1)
           (λ d a p. ((λ e. R .in-rule u v d a p .0 e .1), (λ r. R .in-rule u v d a p .1 (omega (arith, r .apart), r)))))
 

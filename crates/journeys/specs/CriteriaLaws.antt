@@ -6,12 +6,14 @@ use Prim.Native.Nat.{ℕ, suc, _+_, _-_, _≤_, _<_}
 use native.Mathlib.Nat.{le-refl}
 use native.Mathlib.Omega.{arith}
 use native.Mathlib.Decide.{decLe, decLt}
-use Rattle.loops.specs.Decide.{any-below, dec-then, dec-map, Least, least, least-le, Greatest, greatest-ge}
+use Rattle.loops.specs.DecideLaws.{least, least-le, greatest-ge}
+use Rattle.loops.specs.Decide.{any-below, dec-then, dec-map, Least, Greatest}
 use Rattle.journeys.specs.declared.Criterion.{Criterion}
 use Rattle.journeys.specs.declared.Criterion.the-variants.{Early, Late, Short}
 use Rattle.journeys.specs.Journey.{Undominated, Within}
 use Rattle.journeys.specs.Criteria.{Fits, Better, Best, Answer, Nothing}
 use Rattle.journeys.specs.PairLaws.{itself, wider, tight, early-tight, last-for, first-from}
+use Rattle.journeys.specs.Paths.{Lasts}
 
 -- the duration: what `Better` says of short is what the paper says of it
 pub shorter-is : (d a e b : ℕ) → d ≤ a → e ≤ b → (a + e < b + d) ↔ (a - d < b - e)
@@ -107,7 +109,8 @@ module _ (S J : ℕ → ℕ → Type 0) (sound : (d a : ℕ) → S d a → J d a
       go : Within S d a → Best S c d a
       go w =
           let fits = fits-over c (w .after) (w .before) (x .fits) in
-          let same = better-or-same c (w .dep) (w .arr) d a (x .top (w .dep) (w .arr) (sound (w .dep) (w .arr) (w .has)) fits) (never-better c d a (w .dep) (w .arr) (w .after) (w .before)) in
+          let same = better-or-same c (w .dep) (w .arr) d a (x .top (w .dep) (w .arr) (sound (w .dep) (w .arr) (w .has)) fits)
+          (never-better c d a (w .dep) (w .arr) (w .after) (w .before)) in
           record { has = subst₂ S (same .0) (same .1) (w .has); fits = x .fits; top = λ e b s f. x .top e b (sound e b s) f }
 
   pub best-same : (d a : ℕ) → Best S c d a ↔ Best J c d a
@@ -115,12 +118,6 @@ module _ (S J : ℕ → ℕ → Type 0) (sound : (d a : ℕ) → S d a → J d a
 
   pub nothing-same : Nothing S c ↔ Nothing J c
   nothing-same = (λ n e b j f. let w = full e b j in n (w .dep) (w .arr) (w .has) (fits-over c (w .after) (w .before) f), λ n e b s f. n e b (sound e b s) f)
-
--- something of P lasts at most n from s on, within t and t2
-record Lasts (P : ℕ → ℕ → Type 0) (t t2 n s : ℕ) : Type 0 where
-  low : t ≤ s
-  high : s + n ≤ t2
-  has : Within P s (s + n)
 
 lasts : {P : ℕ → ℕ → Type 0} {t t2 d a : ℕ} → P d a → d < a → t ≤ d → a ≤ t2 → Lasts P t t2 (a - d) d
 lasts p l h k = record { low = h; high = omega arith; has = wider (itself p) (omega arith) (omega arith) }

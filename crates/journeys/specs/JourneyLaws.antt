@@ -2,21 +2,27 @@
 use mathlib.Core.Path.{_≡_, refl, sym, ap, subst}
 use mathlib.Core.Logic.{_⊎_, inl, inr, _≢_, _↔_}
 use mathlib.Core.List.{[], _∷_, _++_, List·Memᴰ, List·Memᴰ·head, List·Memᴰ·tail, List·Memᴰ·not-nil, List·Memᴰ·cases-cons}
-use Prim.Native.Nat.{ℕ, _≤_, _<_}
+use Prim.Native.Nat.{ℕ, zero, suc, _≤_, _<_}
 use native.Mathlib.Nat.{le-refl}
 use native.Mathlib.Omega.{arith}
+use lib.ListN.{length, getD}
 use Rattle.kinds.specs.Limits.{lastMinute}
 use Rattle.journeys.specs.Service.{Service, RideAt, GoodService}
 use Rattle.journeys.specs.Journey.{Journey, one, more, rides, visited, between, Visits, Between, Undominated}
-
-unfoldable pub join : {S : Service} {u x v d b c a : ℕ} → Journey S u x d b → b ≤ c → Journey S x v c a → Journey S u v d a
-join (one i r) h k = more i r h k
-join (more i r g j) h k = more i r g (join j h k)
+use Rattle.journeys.specs.Paths.{join, Via}
 
 pub rides-join : {S : Service} {u x v d b c a : ℕ} (j : Journey S u x d b) (h : b ≤ c) (k : Journey S x v c a) → rides (join j h k) ≡ rides j ++ rides k
 unfolding rides join
 rides-join (one i r) h k = refl
 rides-join (more i r g j) h k = ap (λ l. i ∷ l) (rides-join j h k)
+
+-- each ride of a journey is a slot of the service
+pub rides-below : {S : Service} {u v d a : ℕ} (j : Journey S u v d a) (k : ℕ) → k < length (rides j) → getD (rides j) k 0 < S .slots
+unfolding rides
+rides-below (one i r) zero h = r .below
+rides-below (one i r) (suc k) h = absurd (omega arith)
+rides-below (more i r l j) zero h = r .below
+rides-below (more i r l j) (suc k) h = rides-below j k (omega arith)
 
 module _ {S : Service} (G : GoodService S) where
   pub ride-later : {i u v d a : ℕ} → RideAt S i u v d a → d < a
@@ -46,14 +52,6 @@ module _ {S : Service} (G : GoodService S) where
   pub journey-last : {u v d a : ℕ} → Journey S u v d a → a ≤ lastMinute
   journey-last (one i r) = ride-last r
   journey-last (more i r h j) = journey-last j
-
--- a journey u to w and one w to v that meet, with the pair (d, a)
-pub record Via (S : Service) (u w v d a : ℕ) : Type 0 where
-  pub mid : ℕ
-  pub start : ℕ
-  pub meets : mid ≤ start
-  pub first : Journey S u w d mid
-  pub second : Journey S w v start a
 
 -- that is what it is to be strictly between
 via-at : {S : Service} {u v d a : ℕ} (w : ℕ) (j : Journey S u v d a) → List·Memᴰ w (between j) → Via S u w v d a
@@ -95,7 +93,8 @@ visited-cases w (more {u} {x} {v} i r h j) m = go (List·Memᴰ·cases-cons m) (
     rest (inr (inl e)) = inr (inl e)
     rest (inr (inr k)) = inr (inr (List·Memᴰ·tail k))
 
-    go : (w ≡ u) ⊎ List·Memᴰ w (visited j) → (List·Memᴰ w (visited j) → (w ≡ x) ⊎ ((w ≡ v) ⊎ List·Memᴰ w (between j))) → (w ≡ u) ⊎ ((w ≡ v) ⊎ List·Memᴰ w (x ∷ between j))
+    go : (w ≡ u) ⊎ List·Memᴰ w (visited j) → (List·Memᴰ w (visited j) → (w ≡ x) ⊎ ((w ≡ v) ⊎ List·Memᴰ w (between j))) →
+        (w ≡ u) ⊎ ((w ≡ v) ⊎ List·Memᴰ w (x ∷ between j))
     go (inl e) ih = inl e
     go (inr k) ih = rest (ih k)
 

@@ -5,6 +5,7 @@ pub mod Tables
 pub mod Rule
 pub mod Check
 pub mod Rides
+pub mod Paths
 pub mod PairLaws
 pub mod CriteriaLaws
 pub mod JourneyLaws
@@ -14,8 +15,11 @@ pub mod AcceptedLaws
 pub mod RuleLaws
 pub mod RidesLaws
 pub mod EarliestLaws
+pub mod Tests
 pub mod TestLaws
+pub mod RuleTests
 pub mod RuleTestLaws
 pub mod Count
 pub mod CountLaws
+pub mod CountTests
 pub mod CountTestLaws

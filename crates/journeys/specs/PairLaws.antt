@@ -5,7 +5,8 @@ use Prim.Native.Nat.{ℕ, suc, pred, _≤_, _<_}
 use native.Mathlib.Nat.{le-refl}
 use native.Mathlib.Omega.{arith}
 use native.Mathlib.Decide.{decLe, decLt}
-use Rattle.loops.specs.Decide.{Least, least, least-le, Greatest, greatest, greatest-ge}
+use Rattle.loops.specs.DecideLaws.{least, least-le, greatest, greatest-ge}
+use Rattle.loops.specs.Decide.{Least, Greatest}
 use Rattle.journeys.specs.Journey.{Undominated, Within}
 
 pub itself : {P : ℕ → ℕ → Type 0} {d a : ℕ} → P d a → Within P d a
@@ -35,7 +36,8 @@ tight P {s} {e} w f = record {
     same = f (w .dep) (w .arr) (itself (w .has)) (w .after) (w .before)
 
 -- undominated, by three questions of what lies within
-pub undominated-iff : (P : ℕ → ℕ → Type 0) → ((d a : ℕ) → P d a → d < a) → (d a : ℕ) → Undominated P d a ↔ (Within P d a × ¬ (Within P (suc d) a) × ¬ (Within P d (pred a)))
+pub undominated-iff : (P : ℕ → ℕ → Type 0) → ((d a : ℕ) → P d a → d < a) → (d a : ℕ) →
+    Undominated P d a ↔ (Within P d a × ¬ (Within P (suc d) a) × ¬ (Within P d (pred a)))
 undominated-iff P later d a = (to, back)
   where
     to : Undominated P d a → Within P d a × ¬ (Within P (suc d) a) × ¬ (Within P d (pred a))

@@ -6,21 +6,16 @@ use Prim.Native.Nat.{ℕ, zero, suc, pred, _+_, _≤_, _<_}
 use native.Mathlib.Nat.{le-refl}
 use native.Mathlib.Omega.{arith}
 use native.Mathlib.Decide.{ℕ-discrete, decLe, decLt}
-use Rattle.loops.specs.Decide.{any-below, Least, least-below, dec-then, dec-or, dec-map, dec-not}
+use Rattle.loops.specs.DecideLaws.{least-below, dec-not}
+use Rattle.loops.specs.Decide.{dec-true, any-below, Least, dec-then, dec-or, dec-map}
 use Rattle.journeys.specs.Service.{Service, RideAt, GoodService}
 use Rattle.journeys.specs.Journey.{Journey, one, more, Undominated, Within}
 use Rattle.journeys.specs.PairLaws.{same-pair, refine, undominated-iff}
-use Rattle.journeys.specs.JourneyLaws.{join, journey-later, Via}
+use Rattle.journeys.specs.JourneyLaws.{journey-later}
+use Rattle.journeys.specs.Paths.{join, Via, Starts, Meet}
 
--- slot i starts a journey u to v within t and e
-pub record Starts (S : Service) (u v t e i : ℕ) : Type 0 where
-  pub forced : S .in-force i ≡ true
-  pub goes : S .ride i .from ≡ u
-  pub after : t ≤ S .ride i .dep
-  pub before : S .ride i .arr ≤ e
-  pub rest : (S .ride i .to ≡ v) ⊎ Within (Journey S (S .ride i .to) v) (S .ride i .arr) e
-
-ride-at : {S : Service} {i u v : ℕ} → i < S .slots → S .in-force i ≡ true → S .ride i .from ≡ u → S .ride i .to ≡ v → RideAt S i u v (S .ride i .dep) (S .ride i .arr)
+ride-at : {S : Service} {i u v : ℕ} → i < S .slots → S .in-force i ≡ true → S .ride i .from ≡ u → S .ride i .to ≡ v →
+    RideAt S i u v (S .ride i .dep) (S .ride i .arr)
 ride-at h f p q = record { below = h; forced = f; goes = p; ends = q; leaves = refl; arrives = refl }
 
 pub of-start : {S : Service} {u v t e i : ℕ} → i < S .slots → Starts S u v t e i → Within (Journey S u v) t e
@@ -28,7 +23,13 @@ of-start {S} {u} {v} {t} {e} {i} h f = go (f .rest)
   where
     go : (S .ride i .to ≡ v) ⊎ Within (Journey S (S .ride i .to) v) (S .ride i .arr) e → Within (Journey S u v) t e
     go (inl q) = record { dep = S .ride i .dep; arr = S .ride i .arr; has = one i (ride-at h (f .forced) (f .goes) q); after = f .after; before = f .before }
-    go (inr w) = record { dep = S .ride i .dep; arr = w .arr; has = more i (ride-at h (f .forced) (f .goes) refl) (w .after) (w .has); after = f .after; before = w .before }
+    go (inr w) = record {
+      dep = S .ride i .dep;
+      arr = w .arr;
+      has = more i (ride-at h (f .forced) (f .goes) refl) (w .after) (w .has);
+      after = f .after;
+      before = w .before;
+    }
 
 pub to-start : {S : Service} {u v t e d a : ℕ} → GoodService S → Journey S u v d a → t ≤ d → a ≤ e → (i : ℕ) × (i < S .slots) × Starts S u v t e i
 to-start {S} G (one i r) h k =
@@ -44,10 +45,6 @@ to-start {S} {u} {v} {t} {e} G (more {c = c} {a = a} i r g j) h k = (
     rest = inr (record { dep = c; arr = a; has = subst (λ y. Journey S y v c a) (sym (r .ends)) j; after = omega (arith, r .arrives); before = k });
   },
 )
-
-unfoldable pub dec-true : (b : Bool) → Dec (b ≡ true)
-dec-true true = yes refl
-dec-true false = no (λ e. let z : _≡_ {A = ℕ} 0 1 = cc in omega arith)
 
 module _ (S : Service) (G : GoodService S) (v e : ℕ) where
   dec-start : (u t i : ℕ) → i < S .slots → ((u′ t′ : ℕ) → t < t′ → Dec (Within (Journey S u′ v) t′ e)) → Dec (Starts S u v t e i)
@@ -73,11 +70,6 @@ module _ (S : Service) (G : GoodService S) (v e : ℕ) where
 
   pub dec-within : (u t : ℕ) → Dec (Within (Journey S u v) t e)
   dec-within u t = dec-fuel e u t (omega arith)
-
--- some journey u to w to v within t and e, changing at minute m
-pub record Meet (S : Service) (u w v t e m : ℕ) : Type 0 where
-  pub first : Within (Journey S u w) t m
-  pub second : Within (Journey S w v) m e
 
 -- within an undominated pair that is a journey with the very pair that has w between
 pub via-of-meet : {S : Service} {u w v d a m : ℕ} → Undominated (Journey S u v) d a → Meet S u w v d a m → Via S u w v d a
@@ -127,7 +119,8 @@ module _ (S : Service) (G : GoodService S) where
   dec-via {u} {v} {d} {a} U w = dec-map (λ s. via-of-meet U (s .2)) (meet-of-via G) (any-below (Meet S u w v d a) a (λ m _. dec-meet u w v d a m))
 
   -- the lowest-numbered stop between, below a bound, if any is
-  pub lowest-via : {u v d a : ℕ} → Undominated (Journey S u v) d a → (n : ℕ) → ((l : Least (λ w. Via S u w v d a)) × (l .it < n)) ⊎ ((w : ℕ) → w < n → ¬ (Via S u w v d a))
+  pub lowest-via : {u v d a : ℕ} → Undominated (Journey S u v) d a → (n : ℕ) →
+      ((l : Least (λ w. Via S u w v d a)) × (l .it < n)) ⊎ ((w : ℕ) → w < n → ¬ (Via S u w v d a))
   lowest-via {u} {v} {d} {a} U n = least-below (λ w. Via S u w v d a) n (λ w _. dec-via U w)
 
   pub dec-ride : (u v d a i : ℕ) → Dec (RideAt S i u v d a)

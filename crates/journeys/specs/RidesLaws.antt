@@ -7,14 +7,16 @@ use Prim.Native.Nat.{ℕ, zero, suc, _+_, _≤_, _<_}
 use native.Mathlib.Omega.{arith}
 use native.Mathlib.Decide.{ℕ-discrete, decLe, decLt}
 use lib.ListN.{length, length-append}
-use Rattle.loops.specs.Decide.{dec-then, Least, least, least-one}
+use Rattle.loops.specs.DecideLaws.{least, least-one}
+use Rattle.loops.specs.Decide.{dec-then, Least}
 use Rattle.kinds.specs.Limits.{lastMinute}
 use Rattle.journeys.specs.Service.{Service, RideAt, GoodService}
 use Rattle.journeys.specs.Journey.{Journey, one, more, rides, RidesOf}
 use Rattle.journeys.specs.Tables.{Tables, of-out, of-in, Label, GoodTables, JoinAt, Sketch, single, joined, LabelWith}
 use Rattle.journeys.specs.Check.{AllSupported}
 use Rattle.journeys.specs.Rides.{Opens, ride, both, Chosen, by-label, by-hub}
-use Rattle.journeys.specs.JourneyLaws.{join, rides-join, ride-later, journey-last}
+use Rattle.journeys.specs.JourneyLaws.{rides-join, ride-later, journey-last}
+use Rattle.journeys.specs.Paths.{join, Parts}
 use Rattle.journeys.specs.ReachLaws.{dec-ride, dec-some-ride}
 use Rattle.journeys.specs.SketchLaws.{label-later, one-by-dep, one-by-arr, dec-label}
 
@@ -28,24 +30,10 @@ opens-journey {S} (both {u} {w} {v} {d} {b} {c} {a} {p} {q} {l} {m} k k′ h o o
     go x y = record { way = join (x .way) h (y .way); are = rides-join (x .way) h (y .way) ∙ ap₂ _++_ (x .are) (y .are) }
 
 -- and no more of them than the label has minutes
-pub opens-short : {S : Service} {T : Tables} {u v d a : ℕ} {p : Option ℕ} {l : List ℕ} → GoodTables T → Label T u v d a p → Opens S T u v d a p l → length l + d ≤ a
+pub opens-short : {S : Service} {T : Tables} {u v d a : ℕ} {p : Option ℕ} {l : List ℕ} → GoodTables T → Label T u v d a p → Opens S T u v d a p l →
+    length l + d ≤ a
 opens-short G k (ride i r f) = omega (arith, label-later G k)
 opens-short G k (both {l = l} {m} k₁ k₂ h o o′) = omega (arith, length-append l m, opens-short G k₁ o, opens-short G k₂ o′)
-
--- what the rides of a label with a pivot are made of
-pub record Parts (S : Service) (T : Tables) (u w v d a : ℕ) (n : List ℕ) : Type 0 where
-  pub mid : ℕ
-  pub start : ℕ
-  pub pivot₁ : Option ℕ
-  pub pivot₂ : Option ℕ
-  pub rides₁ : List ℕ
-  pub rides₂ : List ℕ
-  pub meets : mid ≤ start
-  pub first : Label T u w d mid pivot₁
-  pub second : Label T w v start a pivot₂
-  pub opens₁ : Opens S T u w d mid pivot₁ rides₁
-  pub opens₂ : Opens S T w v start a pivot₂ rides₂
-  pub are : n ≡ rides₁ ++ rides₂
 
 pub parts : {S : Service} {T : Tables} {u w v d a : ℕ} {n : List ℕ} → Opens S T u v d a (some w) n → Parts S T u w v d a n
 parts (both {b = b} {c} {p = p} {q} {l} {m} k k′ h o o′) =
@@ -89,15 +77,25 @@ module _ {S : Service} {T : Tables} (G : GoodTables T) where
   chosen-one {u} {v} {d} {a} (by-hub h n₁ J f l m o₁ o₂ e) (by-hub h′ n₂ J′ f′ l′ m′ o₃ o₄ e′) =
       e ∙ at-one h′ (least-one (record { it = h; has = J; none-before = f }) (record { it = h′; has = J′; none-before = f′ })) J′ o₃ o₄ ∙ sym e′
     where
-      at-one : (g : ℕ) → h ≡ g → (K : JoinAt T u v d a g) → Opens S T u g d (K .mid) (K .pivot₁) l′ → Opens S T g v (K .start) a (K .pivot₂) m′ → l ++ m ≡ l′ ++ m′
-      at-one g q = subst (λ x. (K : JoinAt T u v d a x) → Opens S T u x d (K .mid) (K .pivot₁) l′ → Opens S T x v (K .start) a (K .pivot₂) m′ → l ++ m ≡ l′ ++ m′) q
-          (λ K x y. two-halves (J .first, of-out (J .out-label)) (J .second, of-in (J .in-label)) (K .first, of-out (K .out-label)) (K .second, of-in (K .in-label)) o₁ o₂ x y)
+      at-one : (g : ℕ) → h ≡ g → (K : JoinAt T u v d a g) → Opens S T u g d (K .mid) (K .pivot₁) l′ → Opens S T g v (K .start) a (K .pivot₂) m′ →
+          l ++ m ≡ l′ ++ m′
+      at-one g q = subst (λ x. (K : JoinAt T u v d a x) → Opens S T u x d (K .mid) (K .pivot₁) l′ → Opens S T x v (K .start) a (K .pivot₂) m′ →
+          l ++ m ≡ l′ ++ m′) q
+          (λ K x y. two-halves (J .first, of-out (J .out-label)) (J .second, of-in (J .in-label)) (K .first, of-out (K .out-label))
+          (K .second, of-in (K .in-label)) o₁ o₂ x y)
 
   -- and no more of them than the answer has minutes
   pub chosen-short : {u v d a : ℕ} {n : List ℕ} → Chosen S T u v d a n → length n + d ≤ a
   chosen-short (by-label p k o) = opens-short G k o
   chosen-short (by-hub h n₁ J f l m o₁ o₂ e) =
-      omega (arith, ap length e, length-append l m, opens-short G (J .first, of-out (J .out-label)) o₁, opens-short G (J .second, of-in (J .in-label)) o₂, J .meets)
+      omega (
+        arith,
+        ap length e,
+        length-append l m,
+        opens-short G (J .first, of-out (J .out-label)) o₁,
+        opens-short G (J .second, of-in (J .in-label)) o₂,
+        J .meets,
+      )
 
 -- the rides of an answer are a journey with exactly the answered pair
 pub chosen-journey : {S : Service} {T : Tables} {u v d a : ℕ} {n : List ℕ} → Chosen S T u v d a n → RidesOf S u v d a n
@@ -119,12 +117,23 @@ module _ {T : Tables} (G : GoodTables T) (u v d a : ℕ) where
       second-is J y = one-by-arr G (J .second, of-in (J .in-label)) (subst (λ b. Label T h v (y .dep) b (y .pivot)) (y .says) (y .label)) .0
 
       join-of : {b c : ℕ} {p q : Option ℕ} → Label T u h d b p → Label T h v c a q → b ≤ c → JoinAt T u v d a h
-      join-of {b} {c} {p} {q} (i, of-out x) (k, of-in y) m = record { first = i; second = k; mid = b; start = c; pivot₁ = p; pivot₂ = q; out-label = x; in-label = y; meets = m }
+      join-of {b} {c} {p} {q} (i, of-out x) (k, of-in y) m = record {
+        first = i;
+        second = k;
+        mid = b;
+        start = c;
+        pivot₁ = p;
+        pivot₂ = q;
+        out-label = x;
+        in-label = y;
+        meets = m;
+      }
       join-of (i, of-in x) l m = absurd (omega (arith, G .below x))
       join-of (i, of-out x) (k, of-out y) m = absurd (omega (arith, G .below y))
 
       meet : (x : LabelWith T u h (λ e b. e ≡ d)) (y : LabelWith T h v (λ e b. b ≡ a)) → Dec (x .arr ≤ y .dep) → Dec (JoinAt T u v d a h)
-      meet x y (yes m) = yes (join-of (subst (λ e. Label T u h e (x .arr) (x .pivot)) (x .says) (x .label)) (subst (λ b. Label T h v (y .dep) b (y .pivot)) (y .says) (y .label)) m)
+      meet x y (yes m) = yes (join-of (subst (λ e. Label T u h e (x .arr) (x .pivot)) (x .says) (x .label))
+          (subst (λ b. Label T h v (y .dep) b (y .pivot)) (y .says) (y .label)) m)
       meet x y (no m) = no (λ J. m (let e = first-is J x in let f = second-is J y in omega (arith, J .meets)))
 
       go : Dec (LabelWith T u h (λ e b. e ≡ d)) → Dec (LabelWith T h v (λ e b. b ≡ a)) → Dec (JoinAt T u v d a h)
@@ -174,7 +183,8 @@ module _ {S : Service} (D : GoodService S) {T : Tables} (G : GoodTables T) where
 
       meet : (b c : ℕ) (p q : Option ℕ) → Label T u w d b p → Label T w v c a q → Dec (b ≤ c) → (b ≤ c → Goal) → Goal
       meet b c p q k₁ k₂ (yes m) rec = rec m
-      meet b c p q k₁ k₂ (no n) rec = no (λ s. let r = parts (s .1) in let x = one-by-dep G (r .first) k₁ .0 in let y = one-by-arr G (r .second) k₂ .0 in omega (arith, r .meets))
+      meet b c p q k₁ k₂ (no n) rec = no (λ s. let r = parts (s .1) in let x = one-by-dep G (r .first) k₁ .0 in let y = one-by-arr G (r .second) k₂ .0 in
+          omega (arith, r .meets))
 
       go : Dec (LabelWith T u w (λ e b. e ≡ d)) → Dec (LabelWith T w v (λ e b. b ≡ a)) →
           ((b c : ℕ) (p q : Option ℕ) → Label T u w d b p → Label T w v c a q → b ≤ c → Goal) → Goal

@@ -6,7 +6,8 @@ use mathlib.Core.Option.{Option, none, some}
 use Prim.Native.Nat.{ℕ, min, _≤_, _<_}
 use native.Mathlib.Omega.{arith}
 use native.Mathlib.Decide.{ℕ-discrete, decLt}
-use Rattle.loops.specs.Decide.{Least, least, least-one}
+use Rattle.loops.specs.DecideLaws.{least, least-one}
+use Rattle.loops.specs.Decide.{Least}
 use Rattle.journeys.specs.declared.Criterion.{Criterion}
 use Rattle.journeys.specs.Service.{Service, RideAt, GoodService}
 use Rattle.journeys.specs.Journey.{Journey, one, more, Undominated, Within}
@@ -15,7 +16,8 @@ use Rattle.journeys.specs.Tables.{Side, outs, ins, Tables, Entry, of-out
 use Rattle.journeys.specs.Rule.{Pivot, by-run, by-stop, Rule, ByRule}
 use Rattle.journeys.specs.Check.{Halves, AllSupported, Accepted}
 use Rattle.journeys.specs.PairLaws.{same-pair}
-use Rattle.journeys.specs.JourneyLaws.{join, Via, between-iff, visits-iff, via-first, via-second, not-start, not-end}
+use Rattle.journeys.specs.JourneyLaws.{between-iff, visits-iff, via-first, via-second, not-start, not-end}
+use Rattle.journeys.specs.Paths.{join, Via, Labelled, Split, TwoLabels, Part}
 use Rattle.journeys.specs.ReachLaws.{refined, dec-undominated, dec-via, lowest-via, dec-some-ride}
 use Rattle.journeys.specs.AcceptedLaws.{label-sound, sketch-sound, no-gap-iff, complete, accepted-best, accepted-nothing}
 
@@ -24,31 +26,12 @@ pub pivot-one : {S : Service} {u v d a : ℕ} {p q : Option ℕ} → Pivot S u v
 pivot-one (by-run i r) (by-run j s) = refl
 pivot-one (by-run i r) (by-stop w n s f) = absurd (n i r)
 pivot-one (by-stop w n s f) (by-run i r) = absurd (n i r)
-pivot-one (by-stop w n s f) (by-stop w′ n′ s′ f′) = ap some (least-one (record { it = w; has = s; none-before = f }) (record { it = w′; has = s′; none-before = f′ }))
+pivot-one (by-stop w n s f) (by-stop w′ n′ s′ f′) = ap some
+    (least-one (record { it = w; has = s; none-before = f }) (record { it = w′; has = s′; none-before = f′ }))
 
 -- the rule's "no journey visits a stop above both" by journeys that meet there
 pub none-via : {S : Service} {u v d a : ℕ} {p : Option ℕ} → Rule S u v d a p → (w : ℕ) → w < u → w < v → ¬ (Via S u w v d a)
 none-via r w h k s = r .none-above w h k (visits-iff h k .1 s)
-
--- a label of the rule for the ends and the pair
-pub record Labelled (S : Service) (u v d a : ℕ) : Type 0 where
-  pub by : Option ℕ
-  pub rule : Rule S u v d a by
-
--- two undominated halves that meet at w; two labels of the rule that meet at w
-record Split (S : Service) (u w v d a : ℕ) : Type 0 where
-  mid : ℕ
-  start : ℕ
-  meets : mid ≤ start
-  first : Undominated (Journey S u w) d mid
-  second : Undominated (Journey S w v) start a
-
-pub record TwoLabels (S : Service) (u w v d a : ℕ) : Type 0 where
-  pub mid : ℕ
-  pub start : ℕ
-  pub meets : mid ≤ start
-  pub first : Labelled S u w d mid
-  pub second : Labelled S w v start a
 
 module _ (S : Service) (G : GoodService S) where
   -- the halves of an undominated pair at a stop between can be taken undominated
@@ -76,10 +59,14 @@ module _ (S : Service) (G : GoodService S) where
       go : Dec ((i : ℕ) × (i < S .slots) × RideAt S i u v d a) → Journey S u v d a → (p : Option ℕ) × Pivot S u v d a p
       go (yes s) j = (none, by-run (s .0) (s .2))
       go (no n) (one i r) = absurd (n (i, r .below, r))
-      go (no n) (more i r h j) = low (λ k q. n (k, q .below, q)) (least (λ w. Via S u w v d a) (λ w. dec-via S G U w) _ (record { mid = _; start = _; meets = h; first = one i r; second = j }))
+      go (no n) (more i r h j) = low (λ k q. n (k, q .below, q))
+          (least (λ w. Via S u w v d a) (λ w. dec-via S G U w) _ (record { mid = _; start = _; meets = h; first = one i r; second = j }))
 
   pub labelled : {u v d a : ℕ} → u ≢ v → Undominated (Journey S u v) d a → ((w : ℕ) → w < u → w < v → ¬ (Via S u w v d a)) → Labelled S u v d a
-  labelled n U f = let p = pivot-of U in record { by = p .0; rule = record { apart = n; best = U; none-above = λ w h k x. f w h k (visits-iff h k .0 x); pivot = p .1 } }
+  labelled n U f = let p = pivot-of U in record {
+    by = p .0;
+    rule = record { apart = n; best = U; none-above = λ w h k x. f w h k (visits-iff h k .0 x); pivot = p .1 };
+  }
 
   -- at the lowest stop between, both halves have labels
   pub two-labels : {u w v d a : ℕ} → Undominated (Journey S u v) d a → Via S u w v d a → ((x : ℕ) → x < w → ¬ (Via S u x v d a)) → TwoLabels S u w v d a
@@ -98,7 +85,8 @@ module _ (S : Service) (G : GoodService S) where
   pub dec-rule : (u v d a : ℕ) → Dec (Labelled S u v d a)
   dec-rule u v d a = go (ℕ-discrete u v) (dec-undominated S G u v d a)
     where
-      low : u ≢ v → Undominated (Journey S u v) d a → ((l : Least (λ w. Via S u w v d a)) × (l .it < min u v)) ⊎ ((w : ℕ) → w < min u v → ¬ (Via S u w v d a)) → Dec (Labelled S u v d a)
+      low : u ≢ v → Undominated (Journey S u v) d a →
+          ((l : Least (λ w. Via S u w v d a)) × (l .it < min u v)) ⊎ ((w : ℕ) → w < min u v → ¬ (Via S u w v d a)) → Dec (Labelled S u v d a)
       low n U (inl l) = no (λ s. none-via (s .rule) (l .0 .it) (omega (arith, l .1)) (omega (arith, l .1)) (l .0 .has))
       low n U (inr f) = yes (labelled n U (λ w h k. f w (omega arith)))
 
@@ -187,10 +175,6 @@ module _ {S : Service} (G : GoodService S) {T : Tables} (R : ByRule S T) where
 
     pub by-rule-nothing : Nothing (Sketch T u v) c ↔ Nothing (Journey S u v) c
     by-rule-nothing = accepted-nothing G good same (by-rule-accepted good) apart c
-
--- every label of the tables P is a label of T
-pub record Part (P T : Tables) : Type 0 where
-  pub of-part : {side : Side} {s h d a : ℕ} {p : Option ℕ} → ((k : ℕ) × Entry P side k s h d a p) → (k : ℕ) × Entry T side k s h d a p
 
 -- L7: good tables whose labels are labels of the rule's and that are accepted have every label of the rule
 module _ {S : Service} (G : GoodService S) {T P : Tables} (R : ByRule S T) (part : Part P T) (good : GoodTables P) (same : P .stops ≡ S .stops) where

@@ -1,8 +1,8 @@
 -- The label rule by tests that compute: that tables are by the rule. A journey's pair is the departure of a ride and the arrival of a ride,
 -- so that the pairs of two rides are all that need looking at.
-use mathlib.Core.Path.{_≡_, refl, subst}
+use mathlib.Core.Path.{refl, subst}
 use mathlib.Core.Logic.{_⊎_, inl, inr}
-use mathlib.Core.Bool.{Bool, not}
+use mathlib.Core.Bool.{not}
 use mathlib.Core.Option.{Option, none, some}
 use Prim.Native.Nat.{ℕ, suc, pred, min, _≤_, _<_}
 use native.Mathlib.Nat.{le-refl}
@@ -13,21 +13,14 @@ use Rattle.journeys.specs.Journey.{Journey, one, more, Undominated}
 use Rattle.journeys.specs.Tables.{Side, outs, ins, Tables, Entry}
 use Rattle.journeys.specs.Rule.{Pivot, by-run, by-stop, Rule, ByRule}
 use Rattle.journeys.specs.PairLaws.{undominated-iff}
-use Rattle.journeys.specs.JourneyLaws.{Via, between-iff, visits-iff, journey-later}
+use Rattle.journeys.specs.JourneyLaws.{between-iff, visits-iff, journey-later}
+use Rattle.journeys.specs.Paths.{Via}
 use Rattle.journeys.specs.ReachLaws.{via-of-meet}
 use Rattle.journeys.specs.RuleLaws.{pivot-one, none-via}
-use Rattle.journeys.specs.TestLaws.{and-then, or-else, T-and, and-split, or-cases, or-split, T-same, anyb, T-any, any-of, allb, all-of, rideb, ride-of, T-ride, withinb, within-of, T-within}
-
--- the rides that a journey begins and ends with
-record First (S : Service) (u d i : ℕ) : Type 0 where
-  below : i < S .slots
-  goes : S .ride i .from ≡ u
-  leaves : S .ride i .dep ≡ d
-
-record Last (S : Service) (v a i : ℕ) : Type 0 where
-  below : i < S .slots
-  ends : S .ride i .to ≡ v
-  arrives : S .ride i .arr ≡ a
+use Rattle.journeys.specs.TestLaws.{T-and, and-split, or-cases, or-split, T-same, T-any, any-of, all-of, ride-of, T-ride, within-of, T-within}
+use Rattle.journeys.specs.Tests.{and-then, anyb, allb, rideb, withinb}
+use Rattle.journeys.specs.RuleTests.{First, Last, undominatedb, viab, someViab, someRideb, labelledb, pivotb, ruleb, RuleOn, sideb, setb, heldb, pairb}
+use Rattle.journeys.specs.RuleTests.{soundb, fullb}
 
 first-ride : {S : Service} {u v d a : ℕ} → Journey S u v d a → (i : ℕ) × First S u d i
 first-ride (one i r) = (i, record { below = r .below; goes = r .goes; leaves = r .leaves })
@@ -36,33 +29,6 @@ first-ride (more i r h j) = (i, record { below = r .below; goes = r .goes; leave
 last-ride : {S : Service} {u v d a : ℕ} → Journey S u v d a → (i : ℕ) × Last S v a i
 last-ride (one i r) = (i, record { below = r .below; ends = r .ends; arrives = r .arrives })
 last-ride (more i r h j) = last-ride j
-
--- the pair is undominated
-unfoldable pub undominatedb : Service → ℕ → ℕ → ℕ → ℕ → Bool
-undominatedb S u v d a = and-then (withinb S u v d a) (λ _. and-then (not (withinb S u v (suc d) a)) (λ _. not (withinb S u v d (pred a))))
-
--- w is strictly between on a journey with the pair: a ride to w comes there in time
-unfoldable pub viab : Service → ℕ → ℕ → ℕ → ℕ → ℕ → Bool
-viab S u w v d a = anyb (S .slots) (λ i. and-then (eqb (S .ride i .to) w) (λ _. and-then (withinb S u w d (S .ride i .arr)) (λ _. withinb S w v (S .ride i .arr) a)))
-
--- some stop below n is
-unfoldable pub someViab : Service → ℕ → ℕ → ℕ → ℕ → ℕ → Bool
-someViab S u v d a n = anyb n (λ w. viab S u w v d a)
-
--- some run has the pair
-unfoldable pub someRideb : Service → ℕ → ℕ → ℕ → ℕ → Bool
-someRideb S u v d a = anyb (S .slots) (λ i. rideb S i u v d a)
-
--- the pair has a label; the label's pivot is this
-unfoldable pub labelledb : Service → ℕ → ℕ → ℕ → ℕ → Bool
-labelledb S u v d a = and-then (not (eqb u v)) (λ _. and-then (undominatedb S u v d a) (λ _. not (someViab S u v d a (min u v))))
-
-unfoldable pub pivotb : Service → ℕ → ℕ → ℕ → ℕ → Option ℕ → Bool
-pivotb S u v d a none = someRideb S u v d a
-pivotb S u v d a (some w) = and-then (not (someRideb S u v d a)) (λ _. and-then (viab S u w v d a) (λ _. not (someViab S u v d a w)))
-
-unfoldable pub ruleb : Service → ℕ → ℕ → ℕ → ℕ → Option ℕ → Bool
-ruleb S u v d a p = and-then (labelledb S u v d a) (λ _. pivotb S u v d a p)
 
 module _ {S : Service} (G : GoodService S) where
   undominated-of : (u v d a : ℕ) → T (undominatedb S u v d a) → Undominated (Journey S u v) d a
@@ -77,7 +43,8 @@ module _ {S : Service} (G : GoodService S) where
   unfolding undominatedb
   T-undominated u v d a U =
       let s = undominated-iff (Journey S u v) (λ e b j. journey-later G j) d a .0 U in
-      T-and (withinb S u v d a) _ (T-within G (s .0)) (T-and (not (withinb S u v (suc d) a)) _ (not-T (withinb S u v (suc d) a) (λ x. s .1 (within-of u v (suc d) a x)))
+      T-and (withinb S u v d a) _ (T-within G (s .0))
+      (T-and (not (withinb S u v (suc d) a)) _ (not-T (withinb S u v (suc d) a) (λ x. s .1 (within-of u v (suc d) a x)))
       (not-T (withinb S u v d (pred a)) (λ x. s .2 (within-of u v d (pred a) x))))
 
   via-of : (u w v d a : ℕ) → Undominated (Journey S u v) d a → T (viab S u w v d a) → Via S u w v d a
@@ -95,7 +62,8 @@ module _ {S : Service} (G : GoodService S) where
       let i = l .0 in
       let r = l .1 in
       T-any (S .slots) _ i (r .below) (T-and (eqb (S .ride i .to) w) _ (T-same (S .ride i .to) w (r .ends))
-      (T-and (withinb S u w d (S .ride i .arr)) _ (T-within G (record { dep = d; arr = s .mid; has = s .first; after = le-refl d; before = omega (arith, r .arrives) }))
+      (T-and (withinb S u w d (S .ride i .arr)) _
+      (T-within G (record { dep = d; arr = s .mid; has = s .first; after = le-refl d; before = omega (arith, r .arrives) }))
       (T-within G (record { dep = s .start; arr = a; has = s .second; after = omega (arith, r .arrives, s .meets); before = le-refl a }))))
 
   no-via : (u v d a n : ℕ) → T (not (someViab S u v d a n)) → (w : ℕ) → w < n → ¬ (Via S u w v d a)
@@ -134,35 +102,6 @@ module _ {S : Service} (G : GoodService S) where
         pivot = pivot-of u v d a p U (s .1);
       }
 
--- what label k says, in the set of s on a side
-abbrev RuleOn : Service → Side → ℕ → ℕ → ℕ → ℕ → Option ℕ → Type 0
-RuleOn S outs s h d a p = Rule S s h d a p
-RuleOn S ins s h d a p = Rule S h s d a p
-
-unfoldable pub sideb : Service → Side → ℕ → ℕ → ℕ → ℕ → Option ℕ → Bool
-sideb S outs s h d a p = ruleb S s h d a p
-sideb S ins s h d a p = ruleb S h s d a p
-
--- each label of a set is one of the rule
-unfoldable pub setb : Service → Tables → Side → ℕ → Bool
-setb S X side s = allb (X .end side s) (λ k. or-else (ltb k (X .start side s)) (λ _. and-then (ltb (X .hub k) s) (λ _. sideb S side s (X .hub k) (X .dep k) (X .arr k) (X .pivot k))))
-
--- label u to v with the pair
-unfoldable pub heldb : Tables → Side → ℕ → ℕ → ℕ → ℕ → Bool
-heldb X side s h d a = and-then (ltb s (X .stops)) (λ _. anyb (X .end side s) (λ k. and-then (leb (X .start side s) k) (λ _.
-    and-then (eqb (X .hub k) h) (λ _. and-then (eqb (X .dep k) d) (λ _. eqb (X .arr k) a)))))
-
--- a pair that has a label by the rule has one in the tables
-unfoldable pub pairb : Service → Tables → ℕ → ℕ → ℕ → ℕ → Bool
-pairb S X u v d a = or-else (not (labelledb S u v d a)) (λ _. or-else (heldb X outs u v d a) (λ _. heldb X ins v u d a))
-
--- all sets; all pairs of two rides
-unfoldable pub soundb : Service → Tables → Bool
-soundb S X = allb (X .stops) (λ s. and-then (setb S X outs s) (λ _. setb S X ins s))
-
-unfoldable pub fullb : Service → Tables → Bool
-fullb S X = allb (S .slots) (λ i. allb (S .slots) (λ k. pairb S X (S .ride i .from) (S .ride k .to) (S .ride i .dep) (S .ride k .arr)))
-
 module _ {S : Service} (G : GoodService S) (X : Tables) where
   side-of : (side : Side) (s h d a : ℕ) (p : Option ℕ) → T (sideb S side s h d a p) → RuleOn S side s h d a p
   unfolding sideb
@@ -170,10 +109,12 @@ module _ {S : Service} (G : GoodService S) (X : Tables) where
   side-of ins s h d a p q = rule-of G h s d a p q
 
   -- at label k itself, then at what an entry says of it
-  set-of : (side : Side) (s k : ℕ) → T (setb S X side s) → X .start side s ≤ k → k < X .end side s → (X .hub k < s) × RuleOn S side s (X .hub k) (X .dep k) (X .arr k) (X .pivot k)
+  set-of : (side : Side) (s k : ℕ) → T (setb S X side s) → X .start side s ≤ k → k < X .end side s → (X .hub k < s) ×
+      RuleOn S side s (X .hub k) (X .dep k) (X .arr k) (X .pivot k)
   unfolding setb
   set-of side s k q low high =
-      let t = or-split (ltb k (X .start side s)) _ (all-of (X .end side s) _ q k high) (not-T (ltb k (X .start side s)) (λ x. omega (arith, ltb→lt k (X .start side s) x))) in
+      let t = or-split (ltb k (X .start side s)) _ (all-of (X .end side s) _ q k high)
+      (not-T (ltb k (X .start side s)) (λ x. omega (arith, ltb→lt k (X .start side s) x))) in
       let t₁ = and-split (ltb (X .hub k) s) _ t in
       (ltb→lt (X .hub k) s (t₁ .0), side-of side s (X .hub k) (X .dep k) (X .arr k) (X .pivot k) (t₁ .1))
 
@@ -222,7 +163,8 @@ module _ {S : Service} (G : GoodService S) (X : Tables) where
     held : {u v d a : ℕ} {p : Option ℕ} → Rule S u v d a p → T (heldb X outs u v d a) ⊎ T (heldb X ins v u d a)
     unfolding pairb
     held {u} {v} {d} {a} r =
-        let t = or-split (not (labelledb S u v d a)) _ (pair-at (first-ride (r .best .has) .1) (last-ride (r .best .has) .1)) (not-T (not (labelledb S u v d a)) (λ n. T-not (labelledb S u v d a) n (T-labelled G r))) in
+        let t = or-split (not (labelledb S u v d a)) _ (pair-at (first-ride (r .best .has) .1) (last-ride (r .best .has) .1))
+        (not-T (not (labelledb S u v d a)) (λ n. T-not (labelledb S u v d a) n (T-labelled G r))) in
         or-cases (heldb X outs u v d a) _ t
 
     full-outs : {u v d a : ℕ} {p : Option ℕ} → v < u → Rule S u v d a p → (k : ℕ) × Entry X outs k u v d a p

@@ -4,13 +4,7 @@ use mathlib.Core.Path.{_≡_}
 use mathlib.Core.Logic.{_≢_}
 use mathlib.Core.Bool.{Bool, true}
 use Rattle.kinds.specs.Limits.{lastMinute}
-
--- a ride leaves the stop `from` at minute `dep` and arrives at the stop `to` at minute `arr`
-pub record Ride : Type 0 where
-  pub from : ℕ
-  pub to : ℕ
-  pub dep : ℕ
-  pub arr : ℕ
+use Rattle.journeys.specs.declared.Ride.{Ride}
 
 -- Stops are numbered from 0 and "the first is stop 0 and ranks highest". Slots are numbered from 0; at each stands a ride, and a test
 -- says whether it is in force. "its runs at their stated minutes, and nothing else, are in force": a run stands at the slot of its number.

@@ -9,14 +9,22 @@ use Rattle.loops.specs.Decide.{any-below, dec-then, dec-or, dec-map}
 use Rattle.kinds.specs.Limits.{lastMinute}
 use Rattle.journeys.specs.Tables.{Side, outs, ins, Tables, Entry, LabelAt, of-out, of-in, Label, GoodTables, Sketch, single, joined, LabelWith}
 use Rattle.journeys.specs.Journey.{Within}
+use Rattle.journeys.specs.Paths.{Hit, Exact, Hits, HubMeeting}
 
 -- one number, one label
-pub one-entry : {T : Tables} {side : Side} {i k s h g d e a b : ℕ} {p q : Option ℕ} → i ≡ k → Entry T side i s h d a p → Entry T side k s g e b q → (h ≡ g) × (d ≡ e) × (a ≡ b) × (p ≡ q)
-one-entry {T} n x y =
-    (sym (x .hub) ∙ ap (T .hub) n ∙ y .hub, sym (x .dep) ∙ ap (T .dep) n ∙ y .dep, sym (x .arr) ∙ ap (T .arr) n ∙ y .arr, sym (x .pivot) ∙ ap (T .pivot) n ∙ y .pivot)
+pub one-entry : {T : Tables} {side : Side} {i k s h g d e a b : ℕ} {p q : Option ℕ} → i ≡ k → Entry T side i s h d a p → Entry T side k s g e b q → (h ≡ g) ×
+    (d ≡ e) × (a ≡ b) × (p ≡ q)
+one-entry {T} n x y = (
+  sym (x .hub) ∙ ap (T .hub) n ∙ y .hub,
+  sym (x .dep) ∙ ap (T .dep) n ∙ y .dep,
+  sym (x .arr) ∙ ap (T .arr) n ∙ y .arr,
+  sym (x .pivot) ∙ ap (T .pivot) n ∙
+      y .pivot,
+)
 
 -- label k as it stands
-pub entry-at : {T : Tables} {side : Side} {k s : ℕ} → s < T .stops → T .start side s ≤ k → k < T .end side s → Entry T side k s (T .hub k) (T .dep k) (T .arr k) (T .pivot k)
+pub entry-at : {T : Tables} {side : Side} {k s : ℕ} → s < T .stops → T .start side s ≤ k → k < T .end side s →
+    Entry T side k s (T .hub k) (T .dep k) (T .arr k) (T .pivot k)
 entry-at o l h = record { owner = o; low = l; high = h; hub = refl; dep = refl; arr = refl; pivot = refl }
 
 module _ {T : Tables} (G : GoodTables T) where
@@ -89,24 +97,12 @@ module _ {T : Tables} (G : GoodTables T) where
 
 -- Deciding, in any tables: labels are numbered, so a search by number ends.
 
--- label k is of s, with hub h, within t and e
-record Hit (T : Tables) (side : Side) (s h t e k : ℕ) : Type 0 where
-  owner : s < T .stops
-  low : T .start side s ≤ k
-  high : k < T .end side s
-  hub : T .hub k ≡ h
-  after : t ≤ T .dep k
-  before : T .arr k ≤ e
-
 dec-hit : (T : Tables) (side : Side) (s h t e k : ℕ) → Dec (Hit T side s h t e k)
 dec-hit T side s h t e k = dec-map
     (λ x. record { owner = x .0; low = x .1 .0; high = x .1 .1 .0; hub = x .1 .1 .1 .0; after = x .1 .1 .1 .1 .0; before = x .1 .1 .1 .1 .1 })
     (λ x. (x .owner, (x .low, (x .high, (x .hub, (x .after, x .before))))))
     (dec-then (decLt s (T .stops)) (λ _. dec-then (decLe (T .start side s) k) (λ _. dec-then (decLt k (T .end side s)) (λ _.
     dec-then (ℕ-discrete (T .hub k) h) (λ _. dec-then (decLe t (T .dep k)) (λ _. decLe (T .arr k) e))))))
-
-Hits : Tables → Side → ℕ → ℕ → ℕ → ℕ → Type 0
-Hits T side s h t e = (k : ℕ) × (k < T .end side s) × Hit T side s h t e k
 
 dec-hits : (T : Tables) (side : Side) (s h t e : ℕ) → Dec (Hits T side s h t e)
 unfolding Hits
@@ -118,15 +114,7 @@ hit-of x l m = record { owner = x .owner; low = x .low; high = x .high; hub = x 
 entry-of : {T : Tables} {side : Side} {s h t e k : ℕ} → Hit T side s h t e k → Entry T side k s h (T .dep k) (T .arr k) (T .pivot k)
 entry-of x = record { owner = x .owner; low = x .low; high = x .high; hub = x .hub; dep = refl; arr = refl; pivot = refl }
 
--- label k of u's, and a label of v's that it meets at its hub
-record Meeting (T : Tables) (u v t e k : ℕ) : Type 0 where
-  owner : u < T .stops
-  low : T .start outs u ≤ k
-  high : k < T .end outs u
-  after : t ≤ T .dep k
-  then : Hits T ins v (T .hub k) (T .arr k) e
-
-dec-meeting : (T : Tables) (u v t e k : ℕ) → Dec (Meeting T u v t e k)
+dec-meeting : (T : Tables) (u v t e k : ℕ) → Dec (HubMeeting T u v t e k)
 dec-meeting T u v t e k = dec-map
     (λ x. record { owner = x .0; low = x .1 .0; high = x .1 .1 .0; after = x .1 .1 .1 .0; then = x .1 .1 .1 .1 })
     (λ x. (x .owner, (x .low, (x .high, (x .after, x .then)))))
@@ -135,7 +123,7 @@ dec-meeting T u v t e k = dec-map
 
 module _ (T : Tables) (u v t e : ℕ) where
   Ways : Type 0
-  Ways = Hits T outs u v t e ⊎ (Hits T ins v u t e ⊎ ((k : ℕ) × (k < T .end outs u) × Meeting T u v t e k))
+  Ways = Hits T outs u v t e ⊎ (Hits T ins v u t e ⊎ ((k : ℕ) × (k < T .end outs u) × HubMeeting T u v t e k))
 
   to-ways : Within (Sketch T u v) t e → Ways
   unfolding Ways Hits
@@ -158,7 +146,14 @@ module _ (T : Tables) (u v t e : ℕ) where
               then = (
                 J .second,
                 y .high,
-                record { owner = y .owner; low = y .low; high = y .high; hub = y .hub ∙ sym (x .hub); after = omega (arith, x .arr, y .dep, J .meets); before = omega (arith, y .arr) },
+                record {
+                  owner = y .owner;
+                  low = y .low;
+                  high = y .high;
+                  hub = y .hub ∙ sym (x .hub);
+                  after = omega (arith, x .arr, y .dep, J .meets);
+                  before = omega (arith, y .arr);
+                },
               );
             },
           ))
@@ -166,7 +161,13 @@ module _ (T : Tables) (u v t e : ℕ) where
   of-ways : Ways → Within (Sketch T u v) t e
   unfolding Ways Hits
   of-ways (inl (k, m, x)) = record { dep = T .dep k; arr = T .arr k; after = x .after; before = x .before; has = single (T .pivot k) (k, of-out (entry-of x)) }
-  of-ways (inr (inl (k, m, x))) = record { dep = T .dep k; arr = T .arr k; after = x .after; before = x .before; has = single (T .pivot k) (k, of-in (entry-of x)) }
+  of-ways (inr (inl (k, m, x))) = record {
+    dep = T .dep k;
+    arr = T .arr k;
+    after = x .after;
+    before = x .before;
+    has = single (T .pivot k) (k, of-in (entry-of x));
+  }
   of-ways (inr (inr (k, m, x))) =
       let i = x .then .0 in
       let y = x .then .2 in
@@ -190,15 +191,8 @@ module _ (T : Tables) (u v t e : ℕ) where
 
   pub dec-sketch : Dec (Within (Sketch T u v) t e)
   unfolding Ways
-  dec-sketch = dec-map of-ways to-ways (dec-or (dec-hits T outs u v t e) (dec-or (dec-hits T ins v u t e) (any-below (Meeting T u v t e) (T .end outs u) (λ k _. dec-meeting T u v t e k))))
-
--- a label by its ends and pair; by its ends and departure; by its ends and arrival
-record Exact (T : Tables) (side : Side) (s h : ℕ) (P : ℕ → ℕ → Type 0) (k : ℕ) : Type 0 where
-  owner : s < T .stops
-  low : T .start side s ≤ k
-  high : k < T .end side s
-  hub : T .hub k ≡ h
-  says : P (T .dep k) (T .arr k)
+  dec-sketch = dec-map of-ways to-ways (dec-or (dec-hits T outs u v t e)
+      (dec-or (dec-hits T ins v u t e) (any-below (HubMeeting T u v t e) (T .end outs u) (λ k _. dec-meeting T u v t e k))))
 
 dec-exact : (T : Tables) (side : Side) (s h : ℕ) (P : ℕ → ℕ → Type 0) → ((d a : ℕ) → Dec (P d a)) → Dec ((k : ℕ) × (k < T .end side s) × Exact T side s h P k)
 dec-exact T side s h P dec = any-below (Exact T side s h P) (T .end side s) (λ k _. dec-map
@@ -223,6 +217,7 @@ dec-label T u v P dec = dec-map to back (dec-or (dec-exact T outs u v P dec) (de
     back : LabelWith T u v P → ((k : ℕ) × (k < T .end outs u) × Exact T outs u v P k) ⊎ ((k : ℕ) × (k < T .end ins v) × Exact T ins v u P k)
     back l = go (l .label) (l .says)
       where
-        go : {d a : ℕ} {p : Option ℕ} → Label T u v d a p → P d a → ((k : ℕ) × (k < T .end outs u) × Exact T outs u v P k) ⊎ ((k : ℕ) × (k < T .end ins v) × Exact T ins v u P k)
+        go : {d a : ℕ} {p : Option ℕ} → Label T u v d a p → P d a →
+            ((k : ℕ) × (k < T .end outs u) × Exact T outs u v P k) ⊎ ((k : ℕ) × (k < T .end ins v) × Exact T ins v u P k)
         go (k, of-out x) y = inl (k, x .high, exact x y)
         go (k, of-in x) y = inr (k, x .high, exact x y)

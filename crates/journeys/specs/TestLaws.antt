@@ -10,16 +10,9 @@ use Rattle.kinds.specs.Limits.{lastMinute}
 use Rattle.journeys.specs.Service.{Service, RideAt, GoodService}
 use Rattle.journeys.specs.Journey.{Journey, Within}
 use Rattle.journeys.specs.JourneyLaws.{journey-later}
-use Rattle.journeys.specs.ReachLaws.{Starts, of-start, to-start}
-
--- tests that wait: the second is computed only where the first passes (fails)
-abbrev pub and-then : Bool → (Unit {0} → Bool) → Bool
-and-then true f = f tt
-and-then false f = false
-
-abbrev pub or-else : Bool → (Unit {0} → Bool) → Bool
-or-else true f = true
-or-else false f = f tt
+use Rattle.journeys.specs.ReachLaws.{of-start, to-start}
+use Rattle.journeys.specs.Paths.{Starts}
+use Rattle.journeys.specs.Tests.{and-then, or-else, anyb, allb, goodb, rideb, startb, reachb, withinb}
 
 pub T-and : (b : Bool) (f : Unit {0} → Bool) → T b → T (f tt) → T (and-then b f)
 T-and true f p q = q
@@ -55,24 +48,23 @@ T-is b e = subst T (sym e) tt
 pub T-same : (m n : ℕ) → m ≡ n → T (eqb m n)
 T-same m n e = subst (λ k. T (eqb m k)) e (eqb-refl m)
 
--- some, or every, number below n passes
-unfoldable pub anyb : ℕ → (ℕ → Bool) → Bool
-anyb zero p = false
-anyb (suc n) p = or-else (p n) (λ _. anyb n p)
-
 pub T-any : (n : ℕ) (p : ℕ → Bool) (i : ℕ) → i < n → T (p i) → T (anyb n p)
 unfolding anyb
 T-any zero p i h q = omega arith
-T-any (suc n) p i h q = elim (ℕ-discrete i n) [ yes e ↦ T-or₁ (p n) _ (subst (λ k. T (p k)) e q) | no e ↦ T-or₂ (p n) (λ _. anyb n p) (T-any n p i (omega arith) q) ]
+T-any (suc n) p i h q = elim (ℕ-discrete i n) [
+  | yes e ↦ T-or₁ (p n) _ (subst (λ k. T (p k)) e q)
+  | no e ↦ T-or₂ (p n) (λ _. anyb n p)
+      (T-any n p i (omega arith) q)
+]
 
 pub any-of : (n : ℕ) (p : ℕ → Bool) → T (anyb n p) → (i : ℕ) × (i < n) × T (p i)
 unfolding anyb
 any-of zero p q = absurd q
-any-of (suc n) p q = elim (or-cases (p n) (λ _. anyb n p) q) [ inl h ↦ (n, omega arith, h) | inr h ↦ (let s = any-of n p h in (s .0, omega (arith, s .1), s .2)) ]
-
-unfoldable pub allb : ℕ → (ℕ → Bool) → Bool
-allb zero p = true
-allb (suc n) p = and-then (p n) (λ _. allb n p)
+any-of (suc n) p q = elim (or-cases (p n) (λ _. anyb n p) q) [
+  | inl h ↦ (n, omega arith, h)
+  | inr h ↦
+      (let s = any-of n p h in (s .0, omega (arith, s .1), s .2))
+]
 
 pub all-of : (n : ℕ) (p : ℕ → Bool) → T (allb n p) → (i : ℕ) → i < n → T (p i)
 unfolding allb
@@ -80,11 +72,6 @@ all-of zero p q i h = absurd (omega arith)
 all-of (suc n) p q i h =
     let s = and-split (p n) (λ _. allb n p) q in
     elim (ℕ-discrete i n) [ yes e ↦ subst (λ k. T (p k)) (sym e) (s .0) | no e ↦ all-of n p (s .1) i (omega arith) ]
-
--- the service is good
-unfoldable pub goodb : Service → Bool
-goodb S = allb (S .slots) (λ i. and-then (ltb (S .ride i .from) (S .stops)) (λ _. and-then (ltb (S .ride i .to) (S .stops)) (λ _.
-    and-then (not (eqb (S .ride i .from) (S .ride i .to))) (λ _. and-then (ltb (S .ride i .dep) (S .ride i .arr)) (λ _. leb (S .ride i .arr) lastMinute)))))
 
 pub good-of : (S : Service) → T (goodb S) → GoodService S
 unfolding goodb
@@ -104,16 +91,12 @@ good-of S q = record {
         and-then (ltb (S .ride i .dep) (S .ride i .arr)) (λ _. leb (S .ride i .arr) lastMinute)))
     at₂ i h = and-split (ltb (S .ride i .to) (S .stops)) _ (at₁ i h .1)
 
-    at₃ : (i : ℕ) → i < S .slots → T (not (eqb (S .ride i .from) (S .ride i .to))) × T (and-then (ltb (S .ride i .dep) (S .ride i .arr)) (λ _. leb (S .ride i .arr) lastMinute))
+    at₃ : (i : ℕ) → i < S .slots → T (not (eqb (S .ride i .from) (S .ride i .to))) ×
+        T (and-then (ltb (S .ride i .dep) (S .ride i .arr)) (λ _. leb (S .ride i .arr) lastMinute))
     at₃ i h = and-split (not (eqb (S .ride i .from) (S .ride i .to))) _ (at₂ i h .1)
 
     at₄ : (i : ℕ) → i < S .slots → T (ltb (S .ride i .dep) (S .ride i .arr)) × T (leb (S .ride i .arr) lastMinute)
     at₄ i h = and-split (ltb (S .ride i .dep) (S .ride i .arr)) _ (at₃ i h .1)
-
--- slot i is a ride u to v with the pair
-unfoldable pub rideb : Service → ℕ → ℕ → ℕ → ℕ → ℕ → Bool
-rideb S i u v d a = and-then (ltb i (S .slots)) (λ _. and-then (S .in-force i) (λ _. and-then (eqb (S .ride i .from) u) (λ _. and-then (eqb (S .ride i .to) v) (λ _.
-    and-then (eqb (S .ride i .dep) d) (λ _. eqb (S .ride i .arr) a)))))
 
 pub ride-of : {S : Service} (i u v d a : ℕ) → T (rideb S i u v d a) → RideAt S i u v d a
 unfolding rideb
@@ -139,12 +122,8 @@ T-ride {S} {i} {u} {v} {d} {a} r =
     (T-and (eqb (S .ride i .from) u) _ (T-same (S .ride i .from) u (r .goes)) (T-and (eqb (S .ride i .to) v) _ (T-same (S .ride i .to) v (r .ends))
     (T-and (eqb (S .ride i .dep) d) _ (T-same (S .ride i .dep) d (r .leaves)) (T-same (S .ride i .arr) a (r .arrives))))))
 
--- slot i starts a journey u to v within t and e, given the test of the rest
-unfoldable pub startb : Service → ℕ → ℕ → ℕ → ℕ → ℕ → (Unit {0} → Bool) → Bool
-startb S u v t e i rest = and-then (S .in-force i) (λ _. and-then (eqb (S .ride i .from) u) (λ _. and-then (leb t (S .ride i .dep)) (λ _.
-    and-then (leb (S .ride i .arr) e) (λ _. or-else (eqb (S .ride i .to) v) rest))))
-
-T-start : {S : Service} {u v t e i : ℕ} (rest : Unit {0} → Bool) → Starts S u v t e i → (Within (Journey S (S .ride i .to) v) (S .ride i .arr) e → T (rest tt)) → T (startb S u v t e i rest)
+T-start : {S : Service} {u v t e i : ℕ} (rest : Unit {0} → Bool) → Starts S u v t e i →
+    (Within (Journey S (S .ride i .to) v) (S .ride i .arr) e → T (rest tt)) → T (startb S u v t e i rest)
 unfolding startb
 T-start {S} {u} {v} {t} {e} {i} rest s k =
     T-and (S .in-force i) _ (T-is (S .in-force i) (s .forced))
@@ -155,7 +134,8 @@ T-start {S} {u} {v} {t} {e} {i} rest s k =
     go (inl p) = T-or₁ (eqb (S .ride i .to) v) rest (T-same (S .ride i .to) v p)
     go (inr w) = T-or₂ (eqb (S .ride i .to) v) rest (k w)
 
-start-of : {S : Service} (u v t e i : ℕ) (rest : Unit {0} → Bool) → (T (rest tt) → Within (Journey S (S .ride i .to) v) (S .ride i .arr) e) → T (startb S u v t e i rest) → Starts S u v t e i
+start-of : {S : Service} (u v t e i : ℕ) (rest : Unit {0} → Bool) → (T (rest tt) → Within (Journey S (S .ride i .to) v) (S .ride i .arr) e) →
+    T (startb S u v t e i rest) → Starts S u v t e i
 unfolding startb
 start-of {S} u v t e i rest k q =
     let s = and-split (S .in-force i) _ q in
@@ -170,18 +150,14 @@ start-of {S} u v t e i rest k q =
       rest = elim (or-cases (eqb (S .ride i .to) v) rest (s₃ .1)) [ inl p ↦ inl (eqb→eq (S .ride i .to) v p) | inr p ↦ inr (k p) ];
     }
 
--- a search for a journey u to v within t and e, of at most f rides
-unfoldable pub reachb : Service → ℕ → ℕ → ℕ → ℕ → ℕ → Bool
-reachb S v e zero u t = false
-reachb S v e (suc f) u t = anyb (S .slots) (λ i. startb S u v t e i (λ _. reachb S v e f (S .ride i .to) (S .ride i .arr)))
-
 module _ (S : Service) (v e : ℕ) where
   reached : (f u t : ℕ) → T (reachb S v e f u t) → Within (Journey S u v) t e
   unfolding reachb
   reached zero u t q = absurd q
   reached (suc f) u t q =
       let s = any-of (S .slots) _ q in
-      of-start (s .1) (start-of u v t e (s .0) (λ _. reachb S v e f (S .ride (s .0) .to) (S .ride (s .0) .arr)) (λ r. reached f (S .ride (s .0) .to) (S .ride (s .0) .arr) r) (s .2))
+      of-start (s .1) (start-of u v t e (s .0) (λ _. reachb S v e f (S .ride (s .0) .to) (S .ride (s .0) .arr))
+      (λ r. reached f (S .ride (s .0) .to) (S .ride (s .0) .arr) r) (s .2))
 
   found : GoodService S → (f u t : ℕ) → e ≤ t + f → Within (Journey S u v) t e → T (reachb S v e f u t)
   unfolding reachb
@@ -190,10 +166,6 @@ module _ (S : Service) (v e : ℕ) where
       let s = to-start G (w .has) (w .after) (w .before) in
       T-any (S .slots) _ (s .0) (s .1) (T-start (λ _. reachb S v e f (S .ride (s .0) .to) (S .ride (s .0) .arr)) (s .2)
       (λ r. found G f (S .ride (s .0) .to) (S .ride (s .0) .arr) (omega (arith, G .later (s .0) (s .1) (s .2 .forced), s .2 .after)) r))
-
--- some journey u to v is within t and e: it has fewer rides than minutes
-unfoldable pub withinb : Service → ℕ → ℕ → ℕ → ℕ → Bool
-withinb S u v t e = reachb S v e (e - t) u t
 
 pub within-of : {S : Service} (u v t e : ℕ) → T (withinb S u v t e) → Within (Journey S u v) t e
 unfolding withinb

@@ -1,11 +1,14 @@
 -- What each constructor of src/lib.rt answers.
-use Prim.Native.Nat.{ℕ, _≤_, _<_}
+use Prim.Native.Nat.{ℕ, _+_, _≤_, _<_}
 use mathlib.Core.Path.{_≡_}
+use mathlib.Core.List.{List}
 use mathlib.Core.Logic.{_⊎_}
 use mathlib.Core.Bool.{Bool, false, cond}
+use lib.ListN.{length}
 use lib.Dec.{ltb, leb, eqb}
 use Rattle.kinds.specs.Limits.{mostStops, mostRuns, noPivot, lastMinute, mostTrip, mostCode, leastCodeByte, mostCodeByte}
 use Rattle.kinds.specs.Refusals.{stopUnknown, ownStop, outOfRange}
+use Rattle.kinds.specs.declared.Code.{Code}
 use Rattle.kinds.specs.declared.StopRead.{StopRead}
 use Rattle.kinds.specs.declared.StopRead.the-variants as stop
 use Rattle.kinds.specs.declared.MinuteRead.{MinuteRead}
@@ -48,6 +51,11 @@ runOf stops from to dep arr t =
     (cond (ltb mostTrip t) (run.Bad outOfRange)
     (run.Good (record { from = from; to = to; dep = dep; arr = arr; trip = t }))))))))
 
+-- a run is good, or refused by 5, 6 or 7
+abbrev pub RunRefusal : RunRead → Type 0
+RunRefusal (run.Good r) = Unit
+RunRefusal (run.Bad n) = (stopUnknown ≤ n) × (n ≤ outOfRange)
+
 -- "A good label, by stop numbers: hub less than owner; departure < arrival ≤ 2,879; pivot [none], or more than the hub, less than n and not the owner."
 unfoldable pub labelOf : ℕ → ℕ → ℕ → ℕ → ℕ → ℕ → LabelRead
 labelOf stops owner hub dep arr pivot =
@@ -69,6 +77,11 @@ isCodeByte b = cond (ltb b leastCodeByte) false (leb b mostCodeByte)
 -- "Codes 1 to 64 bytes"
 unfoldable pub isCodeLength : ℕ → Bool
 isCodeLength n = cond (eqb n 0) false (leb n mostCode)
+
+-- the code stands in the text s, and is no longer than a code may be
+pub record CodeIn (s : List ℕ) (c : Code) : Type 0 where
+  pub within : c .start + c .length ≤ length s
+  pub short : c .length ≤ mostCode
 
 -- the five numbers of a good run
 pub record GoodRun (stops from to dep arr trip : ℕ) : Type 0 where

@@ -2,13 +2,14 @@
 use Prim.Native.Nat.{ℕ, _≤_, _<_}
 use mathlib.Core.Path.{_≡_, refl}
 use mathlib.Core.Bool.{Bool, true, false, cond}
-use mathlib.Core.Logic.{inl, inr}
+use mathlib.Core.Logic.{_⊎_, inl, inr}
 use native.Mathlib.Omega.{arith}
+use native.Mathlib.Decide.{ℕ-discrete}
 use lib.Dec.{ltb, leb, eqb}
-use borrow.Author.Tests.{ltb-true, ltb-false, leb-true, leb-false, eqb-true, eqb-false, lt-ltb, le-ltb, le-leb, lt-leb, ne-eqb}
-use Rattle.loops.specs.Chain.{past, stays}
-use Rattle.kinds.specs.Limits.{mostStops, mostRuns, noPivot, lastMinute, mostTrip}
-use Rattle.kinds.specs.Kinds.{isStopCount, isRunCount, stopOf, minuteOf, runOf, labelOf, GoodRun, GoodLabel}
+use borrow.Author.Tests.{ltb-true, ltb-false, leb-true, leb-false, eqb-true, eqb-false, lt-ltb, le-ltb, le-leb, lt-leb, eq-eqb, ne-eqb}
+use Rattle.loops.specs.ChainLaws.{past, stays, either}
+use Rattle.kinds.specs.Limits.{mostStops, mostRuns, noPivot, lastMinute, mostTrip, mostCode}
+use Rattle.kinds.specs.Kinds.{isStopCount, isRunCount, stopOf, minuteOf, runOf, labelOf, isCodeLength, RunRefusal, GoodRun, GoodPivot, GoodLabel}
 use Rattle.kinds.specs.declared.StopRead.the-variants as stop
 use Rattle.kinds.specs.declared.Stop.{Stop}
 use Rattle.kinds.specs.declared.MinuteRead.the-variants as minute
@@ -28,6 +29,10 @@ stop-count n e =
     let z = past (eqb n 0) e (λ x. let y : _≡_ {A = ℕ} 0 1 = cc in omega arith) in
     let l = leb-true n mostStops (z .1) in
     (omega (arith, eqb-false n 0 (z .0)), l)
+
+pub code-most : (n : ℕ) → isCodeLength n ≡ true → n ≤ mostCode
+unfolding isCodeLength
+code-most n e = leb-true n mostCode (past (eqb n 0) e (λ x. let y : _≡_ {A = ℕ} 0 1 = cc in omega arith) .1)
 
 pub run-count-is : (n : ℕ) → n ≤ mostRuns → isRunCount n ≡ true
 unfolding isRunCount
@@ -85,8 +90,20 @@ run-good stops from to dep arr t r e =
       cc,
     )
 
+pub run-refusal : (stops from to dep arr t : ℕ) → RunRefusal (runOf stops from to dep arr t)
+unfolding runOf
+run-refusal stops from to dep arr t =
+    either RunRefusal (leb stops from) (omega arith, omega arith)
+    (either RunRefusal (leb stops to) (omega arith, omega arith)
+    (either RunRefusal (eqb from to) (omega arith, omega arith)
+    (either RunRefusal (leb arr dep) (omega arith, omega arith)
+    (either RunRefusal (ltb lastMinute arr) (omega arith, omega arith)
+    (either RunRefusal (eqb t 0) (omega arith, omega arith)
+    (either RunRefusal (ltb mostTrip t) (omega arith, omega arith) tt))))))
+
 -- and a good run is read as it is
-pub run-is : (stops from to dep arr t : ℕ) → GoodRun stops from to dep arr t → runOf stops from to dep arr t ≡ run.Good (record { from = from; to = to; dep = dep; arr = arr; trip = t })
+pub run-is : (stops from to dep arr t : ℕ) → GoodRun stops from to dep arr t →
+    runOf stops from to dep arr t ≡ run.Good (record { from = from; to = to; dep = dep; arr = arr; trip = t })
 unfolding runOf
 run-is stops from to dep arr t g =
     rw (
@@ -127,4 +144,25 @@ label-good stops owner hub dep arr pivot l e =
             pivoted = inr (record { above = leb-false pivot hub (z₅ .0); below = leb-false stops pivot (z₆ .0); other = eqb-false pivot owner (z₇ .0) });
           },
           cc,
+        )
+
+-- and a good label is read as it is
+pub label-is : (stops owner hub dep arr pivot : ℕ) → GoodLabel stops owner hub dep arr pivot →
+    labelOf stops owner hub dep arr pivot ≡ label.Good (record { hub = hub; dep = dep; arr = arr; pivot = pivot })
+unfolding labelOf
+label-is stops owner hub dep arr pivot g = go (ℕ-discrete pivot noPivot) (g .pivoted)
+  where
+    go : Dec (pivot ≡ noPivot) → (pivot ≡ noPivot) ⊎ GoodPivot stops owner hub pivot →
+        labelOf stops owner hub dep arr pivot ≡ label.Good (record { hub = hub; dep = dep; arr = arr; pivot = pivot })
+    go (yes e) q = rw (lt-leb owner hub (g .low), lt-leb arr dep (g .later), le-ltb lastMinute arr (g .last), eq-eqb pivot noPivot e)
+    go (no ne) (inl e) = absurd (ne e)
+    go (no ne) (inr q) =
+        rw (
+          lt-leb owner hub (g .low),
+          lt-leb arr dep (g .later),
+          le-ltb lastMinute arr (g .last),
+          ne-eqb pivot noPivot ne,
+          lt-leb pivot hub (q .above),
+          lt-leb stops pivot (q .below),
+          ne-eqb pivot owner (q .other),
         )

@@ -4,7 +4,8 @@ use mathlib.Core.Path.{_≡_, ap, sym, _∙_}
 use mathlib.Core.List.{List}
 use Rattle.journeys.specs.Tables.{Tables, Sketch}
 use Rattle.tables.specs.File.{tablesOf, AreBytes}
-use Rattle.timetable.specs.Numbers.{serviceOf}
+use Rattle.timetable.specs.declared.Given.{Given}
+use Rattle.timetable.specs.Slots.{serviceOf}
 use Rattle.asks.specs.declared.Answer.{Answer}
 use Rattle.asks.specs.declared.AskRead.{AskRead}
 use Rattle.asks.specs.declared.Wanted.{Wanted}
@@ -27,21 +28,21 @@ pub four-ask-one : (T : Tables) (q : AskRead) {m n : List ℕ} →
 four-ask-one T q (x, f, e) (y, g, h) = e ∙ ap fourAsk (answers-one (Sketch T) q x y f g) ∙ sym h
 
 -- kiosk_check
-pub four-check-one : (b : List ℕ) (stops count : ℕ) (runs : List ℕ) (lent : ℕ) {m n : List ℕ} →
-    ((x : Verdict) × Checked b stops count runs lent x × (m ≡ fourCheck x)) → ((y : Verdict) × Checked b stops count runs lent y × (n ≡ fourCheck y)) → m ≡ n
-four-check-one b stops count runs lent (x, f, e) (y, g, h) = e ∙ ap fourCheck (checked-one b stops count runs lent f g) ∙ sym h
+pub four-check-one : (b : List ℕ) (given : Given) (runs : List ℕ) (lent : ℕ) {m n : List ℕ} →
+    ((x : Verdict) × Checked b given runs lent x × (m ≡ fourCheck x)) → ((y : Verdict) × Checked b given runs lent y × (n ≡ fourCheck y)) → m ≡ n
+four-check-one b given runs lent (x, f, e) (y, g, h) = e ∙ ap fourCheck (checked-one b given runs lent f g) ∙ sym h
 
 -- kiosk_early_rides, kiosk_late_rides, kiosk_short_rides: the four numbers and the list
-pub four-rides-one : (b : List ℕ) (stops count : ℕ) (runs : List ℕ) (lent from to : ℕ) (w : Wanted) (before k l : List ℕ) {m n : List ℕ} →
-    ((x : RidesAnswer) × Lists (serviceOf stops count runs) (tablesOf b) (ridesAsked b stops count runs lent from to w) before k x × (m ≡ fourRides x)) →
-    ((y : RidesAnswer) × Lists (serviceOf stops count runs) (tablesOf b) (ridesAsked b stops count runs lent from to w) before l y × (n ≡ fourRides y)) → (m ≡ n) × (k ≡ l)
-four-rides-one b stops count runs lent from to w before k l (x, f, e) (y, g, h) =
-    let z = lists-one b stops count runs lent from to w before k l x y f g in
+pub four-rides-one : (b : List ℕ) (given : Given) (runs : List ℕ) (lent from to : ℕ) (w : Wanted) (before k l : List ℕ) {m n : List ℕ} →
+    ((x : RidesAnswer) × Lists (serviceOf given runs) (tablesOf b) (ridesAsked b given runs lent from to w) before k x × (m ≡ fourRides x)) →
+    ((y : RidesAnswer) × Lists (serviceOf given runs) (tablesOf b) (ridesAsked b given runs lent from to w) before l y × (n ≡ fourRides y)) → (m ≡ n) × (k ≡ l)
+four-rides-one b given runs lent from to w before k l (x, f, e) (y, g, h) =
+    let z = lists-one b given runs lent from to w before k l x y f g in
     (e ∙ ap fourRides (z .0) ∙ sym h, z .1)
 
 -- kiosk_build: the four numbers and the tables, which are bytes
-pub four-build-one : {stops count : ℕ} {runs : List ℕ} {work lent : ℕ} {s t m n : List ℕ} → AreBytes s → AreBytes t →
-    ((x : BuildAnswer) × BuildOf stops count runs work lent x s × (m ≡ fourBuild x)) → ((y : BuildAnswer) × BuildOf stops count runs work lent y t × (n ≡ fourBuild y)) →
+pub four-build-one : {given : Given} {runs : List ℕ} {work lent : ℕ} {s t m n : List ℕ} → AreBytes s → AreBytes t →
+    ((x : BuildAnswer) × BuildOf given runs work lent x s × (m ≡ fourBuild x)) → ((y : BuildAnswer) × BuildOf given runs work lent y t × (n ≡ fourBuild y)) →
     (m ≡ n) × (s ≡ t)
 four-build-one p q (x, f, e) (y, g, h) =
     let z = build-one p q f g in

@@ -5,6 +5,7 @@ use builder::BuildAnswer;
 use builder::Work;
 use reader::ReadAnswer;
 use rides::RidesAnswer;
+use timetable::Given;
 use verdict::Verdict;
 ghost use mathlib.Core.Path.{_≡_};
 ghost use lib.ListN.{length};
@@ -14,8 +15,9 @@ ghost use Rattle.asks.specs.declared.Wanted.the-variants as wanted;
 ghost use Rattle.asks.specs.Asks.{asked, Answers};
 ghost use Rattle.reader.specs.Text.{readText, answerOf, runsOf, codesOf};
 ghost use Rattle.loops.specs.Zero.{zeros};
-ghost use Rattle.timetable.specs.Numbers.{serviceOf};
-ghost use Rattle.ground.specs.Ground.{groundRoom};
+ghost use Rattle.timetable.specs.Numbers.{givenOf};
+ghost use Rattle.timetable.specs.Slots.{serviceOf};
+ghost use Rattle.both.specs.Both.{workRoom};
 ghost use Rattle.verdict.specs.declared.Verdict.{Verdict};
 ghost use Rattle.verdict.specs.Verdict.{Checked};
 ghost use Rattle.rides.specs.declared.RidesAnswer.{RidesAnswer};
@@ -51,8 +53,10 @@ pub extern "C" fn kiosk_read(
     answer: &mut [u32; 4],
 )
     ensures { λ _. ⌜ now (answer .exit) ≡ fourRead (answerOf (readText (now (text .entry)) (length (now (runs .entry))) (length (now (codes .entry))))) ⌝ }
-    ensures { λ _. ⌜ now (runs .exit) ≡ runsOf (readText (now (text .entry)) (length (now (runs .entry))) (length (now (codes .entry)))) (length (now (runs .entry))) ⌝ }
-    ensures { λ _. ⌜ now (codes .exit) ≡ codesOf (readText (now (text .entry)) (length (now (runs .entry))) (length (now (codes .entry)))) (length (now (codes .entry))) ⌝ }
+    ensures { λ _. ⌜ now (runs .exit) ≡ runsOf (readText (now (text .entry)) (length (now (runs .entry))) (length (now (codes .entry))))
+        (length (now (runs .entry))) ⌝ }
+    ensures { λ _. ⌜ now (codes .exit) ≡ codesOf (readText (now (text .entry)) (length (now (runs .entry))) (length (now (codes .entry))))
+        (length (now (codes .entry))) ⌝ }
 {
     let a = reader::read(text, runs, codes);
     *answer = four_read(a);
@@ -61,7 +65,8 @@ pub extern "C" fn kiosk_read(
 // early(from, to, t) over the tables: [0, departure, arrival, 0].
 #[no_mangle]
 pub extern "C" fn kiosk_early(tables: &[u8], from: u32, to: u32, t: u32, answer: &mut [u32; 4])
-    ensures { λ _. ⌜ ((x : Answer) × Answers (tablesOf (now (tables .entry))) (asked (now (tables .entry)) from to (wanted.Early t)) x × (now (answer .exit) ≡ fourAsk x)) ⌝ }
+    ensures { λ _. ⌜ ((x : Answer) × Answers (tablesOf (now (tables .entry))) (asked (now (tables .entry)) from to (wanted.Early t)) x ×
+        (now (answer .exit) ≡ fourAsk x)) ⌝ }
 {
     let a = asks::early(tables, from, to, t);
     *answer = four_ask(a);
@@ -70,7 +75,8 @@ pub extern "C" fn kiosk_early(tables: &[u8], from: u32, to: u32, t: u32, answer:
 // late(from, to, t) over the tables: [0, departure, arrival, 0].
 #[no_mangle]
 pub extern "C" fn kiosk_late(tables: &[u8], from: u32, to: u32, t: u32, answer: &mut [u32; 4])
-    ensures { λ _. ⌜ ((x : Answer) × Answers (tablesOf (now (tables .entry))) (asked (now (tables .entry)) from to (wanted.Late t)) x × (now (answer .exit) ≡ fourAsk x)) ⌝ }
+    ensures { λ _. ⌜ ((x : Answer) × Answers (tablesOf (now (tables .entry))) (asked (now (tables .entry)) from to (wanted.Late t)) x ×
+        (now (answer .exit) ≡ fourAsk x)) ⌝ }
 {
     let a = asks::late(tables, from, to, t);
     *answer = four_ask(a);
@@ -86,7 +92,8 @@ pub extern "C" fn kiosk_short(
     t2: u32,
     answer: &mut [u32; 4],
 )
-    ensures { λ _. ⌜ ((x : Answer) × Answers (tablesOf (now (tables .entry))) (asked (now (tables .entry)) from to (wanted.Short t t2)) x × (now (answer .exit) ≡ fourAsk x)) ⌝ }
+    ensures { λ _. ⌜ ((x : Answer) × Answers (tablesOf (now (tables .entry))) (asked (now (tables .entry)) from to (wanted.Short t t2)) x ×
+        (now (answer .exit) ≡ fourAsk x)) ⌝ }
 {
     let a = asks::short(tables, from, to, t, t2);
     *answer = four_ask(a);
@@ -113,9 +120,9 @@ fn four_rides(a: RidesAnswer) -> [u32; 4]
 // How many numbers of two bytes the check needs as working room.
 #[no_mangle]
 pub extern "C" fn kiosk_check_room() -> u32
-    ensures { λ r. ⌜ r ≡ groundRoom ⌝ }
+    ensures { λ r. ⌜ r ≡ workRoom ⌝ }
 {
-    ground::ROOM as u32
+    both::ROOM as u32
 }
 
 // The check of tables from anyone against a timetable's numbers: [0, 0, 0, 0] where they are accepted.
@@ -128,19 +135,24 @@ pub extern "C" fn kiosk_check(
     work: &mut [u16],
     answer: &mut [u32; 4],
 )
-    ensures { λ _. ⌜ ((x : Verdict) × Checked (now (tables .entry)) stops «run_count» (now (runs .entry)) (length (now (work .entry))) x × (now (answer .exit) ≡ fourCheck x)) ⌝ }
+    ensures { λ _. ⌜ ((x : Verdict) × Checked (now (tables .entry)) (givenOf stops «run_count») (now (runs .entry)) (length (now (work .entry))) x ×
+        (now (answer .exit) ≡ fourCheck x)) ⌝ }
     ensures { λ _. ⌜ now (work .exit) ≡ zeros (now (work .entry)) ⌝ }
 {
-    let a = verdict::check(tables, stops, run_count, runs, work);
+    let given = Given {
+        stops,
+        runs: run_count,
+    };
+    let a = verdict::check(tables, given, runs, work);
     *answer = four_check(a);
 }
 
 // How many numbers of two bytes an ask with rides needs as working room.
 #[no_mangle]
 pub extern "C" fn kiosk_rides_room() -> u32
-    ensures { λ r. ⌜ r ≡ groundRoom ⌝ }
+    ensures { λ r. ⌜ r ≡ workRoom ⌝ }
 {
-    ground::ROOM as u32
+    both::ROOM as u32
 }
 
 // early with its rides: [0, departure, arrival, rides], and the run numbers in the list.
@@ -157,12 +169,16 @@ pub extern "C" fn kiosk_early_rides(
     work: &mut [u16],
     answer: &mut [u32; 4],
 )
-    ensures { λ _. ⌜ ((x : RidesAnswer) × Lists (serviceOf stops «run_count» (now (runs .entry))) (tablesOf (now (tables .entry)))
-        (ridesAsked (now (tables .entry)) stops «run_count» (now (runs .entry)) (length (now (work .entry))) from to (wanted.Early t))
+    ensures { λ _. ⌜ ((x : RidesAnswer) × Lists (serviceOf (givenOf stops «run_count») (now (runs .entry))) (tablesOf (now (tables .entry)))
+        (ridesAsked (now (tables .entry)) (givenOf stops «run_count») (now (runs .entry)) (length (now (work .entry))) from to (wanted.Early t))
         (now (list .entry)) (now (list .exit)) x × (now (answer .exit) ≡ fourRides x)) ⌝ }
     ensures { λ _. ⌜ now (work .exit) ≡ zeros (now (work .entry)) ⌝ }
 {
-    let a = rides::early(tables, stops, run_count, runs, from, to, t, list, work);
+    let given = Given {
+        stops,
+        runs: run_count,
+    };
+    let a = rides::early(tables, given, runs, from, to, t, list, work);
     *answer = four_rides(a);
 }
 
@@ -180,12 +196,16 @@ pub extern "C" fn kiosk_late_rides(
     work: &mut [u16],
     answer: &mut [u32; 4],
 )
-    ensures { λ _. ⌜ ((x : RidesAnswer) × Lists (serviceOf stops «run_count» (now (runs .entry))) (tablesOf (now (tables .entry)))
-        (ridesAsked (now (tables .entry)) stops «run_count» (now (runs .entry)) (length (now (work .entry))) from to (wanted.Late t))
+    ensures { λ _. ⌜ ((x : RidesAnswer) × Lists (serviceOf (givenOf stops «run_count») (now (runs .entry))) (tablesOf (now (tables .entry)))
+        (ridesAsked (now (tables .entry)) (givenOf stops «run_count») (now (runs .entry)) (length (now (work .entry))) from to (wanted.Late t))
         (now (list .entry)) (now (list .exit)) x × (now (answer .exit) ≡ fourRides x)) ⌝ }
     ensures { λ _. ⌜ now (work .exit) ≡ zeros (now (work .entry)) ⌝ }
 {
-    let a = rides::late(tables, stops, run_count, runs, from, to, t, list, work);
+    let given = Given {
+        stops,
+        runs: run_count,
+    };
+    let a = rides::late(tables, given, runs, from, to, t, list, work);
     *answer = four_rides(a);
 }
 
@@ -204,12 +224,16 @@ pub extern "C" fn kiosk_short_rides(
     work: &mut [u16],
     answer: &mut [u32; 4],
 )
-    ensures { λ _. ⌜ ((x : RidesAnswer) × Lists (serviceOf stops «run_count» (now (runs .entry))) (tablesOf (now (tables .entry)))
-        (ridesAsked (now (tables .entry)) stops «run_count» (now (runs .entry)) (length (now (work .entry))) from to (wanted.Short t t2))
+    ensures { λ _. ⌜ ((x : RidesAnswer) × Lists (serviceOf (givenOf stops «run_count») (now (runs .entry))) (tablesOf (now (tables .entry)))
+        (ridesAsked (now (tables .entry)) (givenOf stops «run_count») (now (runs .entry)) (length (now (work .entry))) from to (wanted.Short t t2))
         (now (list .entry)) (now (list .exit)) x × (now (answer .exit) ≡ fourRides x)) ⌝ }
     ensures { λ _. ⌜ now (work .exit) ≡ zeros (now (work .entry)) ⌝ }
 {
-    let a = rides::short(tables, stops, run_count, runs, from, to, t, t2, list, work);
+    let given = Given {
+        stops,
+        runs: run_count,
+    };
+    let a = rides::short(tables, given, runs, from, to, t, t2, list, work);
     *answer = four_rides(a);
 }
 
@@ -240,9 +264,14 @@ pub extern "C" fn kiosk_build(
     work: &mut [u16],
     answer: &mut [u32; 4],
 )
-    ensures { λ _. ⌜ ((x : BuildAnswer) × BuildOf stops «run_count» (now (runs .entry)) (length (now (work .entry))) (length (now (tables .entry))) x (now (tables .exit)) × (now (answer .exit) ≡ fourBuild x)) ⌝ }
+    ensures { λ _. ⌜ ((x : BuildAnswer) × BuildOf (givenOf stops «run_count») (now (runs .entry)) (length (now (work .entry)))
+        (length (now (tables .entry))) x (now (tables .exit)) × (now (answer .exit) ≡ fourBuild x)) ⌝ }
     ensures { λ _. ⌜ now (work .exit) ≡ zeros (now (work .entry)) ⌝ }
 {
-    let a = builder::build(stops, run_count, runs, tables, work);
+    let given = Given {
+        stops,
+        runs: run_count,
+    };
+    let a = builder::build(given, runs, tables, work);
     *answer = four_build(a);
 }

@@ -1,6 +1,6 @@
 -- What one line of the timetable text says. The line is the stretch of the text s from a up to e, where its LF stands.
 use Prim.Native.Nat.{ℕ, _+_, _-_, _≤_}
-use mathlib.Core.List.{List, [], _∷_}
+use mathlib.Core.List.{List}
 use mathlib.Core.Bool.{cond, not}
 use lib.ListN.{length}
 use lib.Dec.{ltb, leb, eqb}
@@ -9,6 +9,7 @@ use Rattle.kinds.specs.Refusals.{lineShape, codeBad, codeRepeated, overLimit}
 use Rattle.kinds.specs.Kinds.{runOf}
 use Rattle.kinds.specs.declared.RunRead.{RunRead}
 use Rattle.kinds.specs.declared.RunRead.the-variants as run
+use Rattle.words.specs.Bytes.{bytes}
 use Rattle.words.specs.Words.{space, seek, beginsB, isWordB, numberAt, isCode}
 use Rattle.words.specs.declared.Number.{Number}
 use Rattle.words.specs.declared.NumberRead.{NumberRead}
@@ -54,8 +55,8 @@ fieldsAt s a e =
     (fielded (record { at = a; end = first }) (record { at = first + 1; end = second }) (numbersAt s (second + 1) e)))
 
 -- "In a stop line everything after "stop " is the code": from a on. After a run line it is out of place; then "a stop line 3, 4, 8".
-unfoldable pub stopLine : List ℕ → List ℕ → ℕ → ℕ → ℕ → ℕ → Line
-stopLine s codes stops runs a e =
+unfoldable pub readStopLine : List ℕ → List ℕ → ℕ → ℕ → ℕ → ℕ → Line
+readStopLine s codes stops runs a e =
     cond (ltb 0 runs) (Bad lineShape)
     (cond (not (isCode s a (e - a))) (Bad codeBad)
     (cond (ltb (stopNamed s codes stops s a (e - a)) stops) (Bad codeRepeated)
@@ -79,29 +80,29 @@ runFields s codes stops runs f =
     (f .numbers .trip))
 
 -- what comes of a run line's fields that were read
-abbrev pub shaped : FieldsRead → (Fields → Line) → Line
-shaped (fields.Good f) go = go f
-shaped (fields.Bad n) go = Bad n
+abbrev pub withFields : FieldsRead → (Fields → Line) → Line
+withFields (fields.Good f) go = go f
+withFields (fields.Bad n) go = Bad n
 
 -- "run FROM TO DEP ARR TRIP": the fields from a on. Before any stop it is out of place.
-unfoldable pub runLine : List ℕ → List ℕ → ℕ → ℕ → ℕ → ℕ → Line
-runLine s codes stops runs a e = cond (eqb stops 0) (Bad lineShape) (shaped (fieldsAt s a e) (runFields s codes stops runs))
+unfoldable pub readRunLine : List ℕ → List ℕ → ℕ → ℕ → ℕ → ℕ → Line
+readRunLine s codes stops runs a e = cond (eqb stops 0) (Bad lineShape) (withFields (fieldsAt s a e) (runFields s codes stops runs))
 
--- "stop ", "run ", "end"
+-- what a line begins with, or is
 abbrev pub stopWord : List ℕ
-stopWord = 115 ∷ 116 ∷ 111 ∷ 112 ∷ 32 ∷ []
+stopWord = bytes "stop "
 
 abbrev pub runWord : List ℕ
-runWord = 114 ∷ 117 ∷ 110 ∷ 32 ∷ []
+runWord = bytes "run "
 
 abbrev pub endWord : List ℕ
-endWord = 101 ∷ 110 ∷ 100 ∷ []
+endWord = bytes "end"
 
 -- A line after the first: a run line, a stop line, "end" after one or more stops; "a line out of place" and any other line is refusal 2.
 unfoldable pub lineOf : List ℕ → List ℕ → ℕ → ℕ → ℕ → ℕ → Line
 lineOf s codes stops runs a e =
-    cond (beginsB s a e runWord) (runLine s codes stops runs (a + 4) e)
-    (cond (beginsB s a e stopWord) (stopLine s codes stops runs (a + 5) e)
+    cond (beginsB s a e runWord) (readRunLine s codes stops runs (a + length runWord) e)
+    (cond (beginsB s a e stopWord) (readStopLine s codes stops runs (a + length stopWord) e)
     (cond (isWordB s a e endWord) (cond (ltb 0 stops) End (Bad lineShape))
     (Bad lineShape)))
 

@@ -7,9 +7,9 @@ use native.Mathlib.Omega.{arith}
 use lib.ListN.{length}
 use lib.Dec.{ltb, leb, eqb}
 use borrow.Author.Tests.{leb-false, ltb-true, ltb-false, not-false}
-use Rattle.loops.specs.Chain.{past}
+use Rattle.loops.specs.ChainLaws.{past}
 use Rattle.kinds.specs.Limits.{mostStops, mostRuns}
-use Rattle.kinds.specs.Kinds.{runOf, GoodRun}
+use Rattle.kinds.specs.Kinds.{runOf}
 use Rattle.kinds.specs.KindsLaws.{run-good}
 use Rattle.kinds.specs.declared.Code.{Code}
 use Rattle.kinds.specs.declared.Run.{Run}
@@ -18,7 +18,9 @@ use Rattle.kinds.specs.declared.RunRead.the-variants as run
 use Rattle.words.specs.Words.{space, seek, beginsB, isWordB, isCode}
 use Rattle.words.specs.WordsLaws.{seek-low, begins-long}
 use Rattle.lookup.specs.Lookup.{stopNamed}
-use Rattle.lines.specs.Lines.{numbersAt, fielded, fieldsAt, stopLine, judged, runFields, shaped, runLine, runWord, stopWord, endWord, lineOf, FieldsWithin}
+use Rattle.lines.specs.Lines.{numbersAt, fielded, fieldsAt, readStopLine, judged, runFields, withFields, readRunLine}
+use Rattle.lines.specs.Lines.{runWord, stopWord, endWord, lineOf, FieldsWithin}
+use Rattle.lines.specs.Fine.{FineStop, FineRun, FineLine}
 use Rattle.lines.specs.declared.NumbersRead.{NumbersRead}
 use Rattle.lines.specs.declared.NumbersRead.the-variants as numbers
 use Rattle.lines.specs.declared.Field.{Field}
@@ -50,24 +52,6 @@ fields-within s a e f h low high =
       to-high = omega arith;
     })
 
--- a stop line's code ends where the line does, is a code, and is no other stop's
-pub record FineStop (s codes : List ℕ) (stops e : ℕ) (c : Code) : Type 0 where
-  pub few : stops < mostStops
-  pub ends : c .start + c .length ≡ e
-  pub is-code : isCode s (c .start) (c .length) ≡ true
-  pub new : stops ≤ stopNamed s codes stops s (c .start) (c .length)
-
--- a run line's run is good, and there is room for it
-pub record FineRun (stops runs : ℕ) (r : Run) : Type 0 where
-  pub few : runs < mostRuns
-  pub good : GoodRun stops (r .from) (r .to) (r .dep) (r .arr) (r .trip)
-
-abbrev pub FineLine : List ℕ → List ℕ → ℕ → ℕ → ℕ → Line → Type 0
-FineLine s codes stops runs e (line.Stop c) = (runs ≡ 0) × FineStop s codes stops e c
-FineLine s codes stops runs e (line.Run r) = FineRun stops runs r
-FineLine s codes stops runs e line.End = 0 < stops
-FineLine s codes stops runs e (line.Bad n) = Unit
-
 -- what holds of both answers of a test holds of its answer
 either : (P : Line → Type 0) (b : Bool) {x y : Line} → (b ≡ true → P x) → (b ≡ false → P y) → P (cond b x y)
 either P true f g = f refl
@@ -81,31 +65,33 @@ module _ (s codes : List ℕ) (stops runs e : ℕ) where
       either (FineLine s codes stops runs e) (leb mostRuns runs) (λ t. tt)
       (λ t. record { few = leb-false mostRuns runs t; good = rw (g .1) (g .0) })
 
-  shaped-fine : (x : FieldsRead) → FineLine s codes stops runs e (shaped x (runFields s codes stops runs))
+  fields-fine : (x : FieldsRead) → FineLine s codes stops runs e (withFields x (runFields s codes stops runs))
   unfolding runFields
-  shaped-fine (fields.Bad n) = tt
-  shaped-fine (fields.Good f) = judged-fine _ _ _ _ _ _ refl
+  fields-fine (fields.Bad n) = tt
+  fields-fine (fields.Good f) = judged-fine _ _ _ _ _ _ refl
 
-  run-fine : (a : ℕ) → FineLine s codes stops runs e (runLine s codes stops runs a e)
-  unfolding runLine
-  run-fine a = either (FineLine s codes stops runs e) (eqb stops 0) (λ t. tt) (λ t. shaped-fine (fieldsAt s a e))
+  run-fine : (a : ℕ) → FineLine s codes stops runs e (readRunLine s codes stops runs a e)
+  unfolding readRunLine
+  run-fine a = either (FineLine s codes stops runs e) (eqb stops 0) (λ t. tt) (λ t. fields-fine (fieldsAt s a e))
 
-  stop-fine : (a : ℕ) → a ≤ e → FineLine s codes stops runs e (stopLine s codes stops runs a e)
-  unfolding stopLine
+  stop-fine : (a : ℕ) → a ≤ e → FineLine s codes stops runs e (readStopLine s codes stops runs a e)
+  unfolding readStopLine
   stop-fine a h =
       either (FineLine s codes stops runs e) (ltb 0 runs) (λ t. tt)
       (λ (t₁ : ltb 0 runs ≡ false). either (FineLine s codes stops runs e) (not (isCode s a (e - a))) (λ t. tt)
       (λ (t₂ : not (isCode s a (e - a)) ≡ false). either (FineLine s codes stops runs e) (ltb (stopNamed s codes stops s a (e - a)) stops) (λ t. tt)
       (λ (t₃ : ltb (stopNamed s codes stops s a (e - a)) stops ≡ false). either (FineLine s codes stops runs e) (leb mostStops stops) (λ t. tt)
-      (λ (t₄ : leb mostStops stops ≡ false).
-      (omega (arith, ltb-false 0 runs t₁), record { few = leb-false mostStops stops t₄; ends = omega arith; is-code = not-false _ t₂; new = ltb-false _ _ t₃ })))))
+      (λ (t₄ : leb mostStops stops ≡ false). (
+        omega (arith, ltb-false 0 runs t₁),
+        record { few = leb-false mostStops stops t₄; ends = omega arith; is-code = not-false _ t₂; new = ltb-false _ _ t₃ },
+      )))))
 
   pub line-fine : (a : ℕ) → a ≤ e → FineLine s codes stops runs e (lineOf s codes stops runs a e)
   unfolding lineOf
   line-fine a h =
-      either (FineLine s codes stops runs e) (beginsB s a e runWord) (λ t. run-fine (a + 4))
+      either (FineLine s codes stops runs e) (beginsB s a e runWord) (λ t. run-fine (a + length runWord))
       (λ t. either (FineLine s codes stops runs e) (beginsB s a e stopWord)
-      (λ (t₂ : beginsB s a e stopWord ≡ true). stop-fine (a + 5) (omega (arith, begins-long s a e stopWord t₂)))
+      (λ (t₂ : beginsB s a e stopWord ≡ true). stop-fine (a + length stopWord) (omega (arith, begins-long s a e stopWord t₂)))
       (λ t₂. either (FineLine s codes stops runs e) (isWordB s a e endWord)
       (λ t₃. either (FineLine s codes stops runs e) (ltb 0 stops) (λ t₄. ltb-true 0 stops t₄) (λ t₄. tt))
       (λ t₃. tt)))

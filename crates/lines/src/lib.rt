@@ -8,8 +8,8 @@ use words::NumberRead;
 ghost use mathlib.Core.Path.{_≡_};
 ghost use Prim.Native.Nat.{_+_, _≤_, _<_};
 ghost use lib.ListN.{length};
-ghost use Rattle.lookup.specs.Index.{Indexed};
-ghost use Rattle.lines.specs.Lines.{numbersAt, fieldsAt, stopLine, runFields, runLine, lineOf, Stretch, FieldsWithin};
+ghost use Rattle.lookup.specs.Index.{CodesIndexed};
+ghost use Rattle.lines.specs.Lines.{numbersAt, fieldsAt, readStopLine, runFields, readRunLine, lineOf, Stretch, FieldsWithin};
 
 // The numbers of a run line.
 pub struct Numbers {
@@ -119,9 +119,9 @@ fn stop_line(
     from: usize,
     to: usize,
 ) -> Line
-    requires { ⌜ Indexed (now text) (now codes) stops (now slots) ⌝ }
+    requires { ⌜ CodesIndexed (now text) (now codes) stops (now slots) ⌝ }
     requires { ⌜ Stretch (now text) from to ⌝ }
-    ensures { λ r. ⌜ r ≡ stopLine (now (text .entry)) (now (codes .entry)) stops runs from to ⌝ }
+    ensures { λ r. ⌜ r ≡ readStopLine (now (text .entry)) (now (codes .entry)) stops runs from to ⌝ }
 {
     if 0 < runs {
         return Line::Bad(Refusal::LINE_SHAPE);
@@ -152,7 +152,7 @@ fn run_fields(
     runs: u32,
     fields: Fields,
 ) -> Line
-    requires { ⌜ Indexed (now text) (now codes) stops (now slots) ⌝ }
+    requires { ⌜ CodesIndexed (now text) (now codes) stops (now slots) ⌝ }
     requires { ⌜ FieldsWithin (now text) fields ⌝ }
     ensures { λ r. ⌜ r ≡ runFields (now (text .entry)) (now (codes .entry)) stops runs fields ⌝ }
 {
@@ -183,9 +183,9 @@ fn run_line(
     from: usize,
     to: usize,
 ) -> Line
-    requires { ⌜ Indexed (now text) (now codes) stops (now slots) ⌝ }
+    requires { ⌜ CodesIndexed (now text) (now codes) stops (now slots) ⌝ }
     requires { ⌜ Stretch (now text) from to ⌝ }
-    ensures { λ r. ⌜ r ≡ runLine (now (text .entry)) (now (codes .entry)) stops runs from to ⌝ }
+    ensures { λ r. ⌜ r ≡ readRunLine (now (text .entry)) (now (codes .entry)) stops runs from to ⌝ }
 {
     if stops == 0 {
         return Line::Bad(Refusal::LINE_SHAPE);
@@ -207,7 +207,7 @@ pub fn line_at(
     from: usize,
     to: usize,
 ) -> Line
-    requires { ⌜ Indexed (now text) (now codes) stops (now slots) ⌝ }
+    requires { ⌜ CodesIndexed (now text) (now codes) stops (now slots) ⌝ }
     requires { ⌜ Stretch (now text) from to ⌝ }
     ensures { λ r. ⌜ r ≡ lineOf (now (text .entry)) (now (codes .entry)) stops runs from to ⌝ }
 {

@@ -1,5 +1,5 @@
 -- A code put into the list and into the index.
-use Prim.Native.Nat.{ℕ, zero, suc, _+_, _*_, _%_, _≤_, _<_}
+use Prim.Native.Nat.{ℕ, zero, suc, _+_, _%_, _≤_, _<_}
 use mathlib.Core.Path.{_≡_, refl, sym, _∙_}
 use mathlib.Core.List.{List}
 use mathlib.Core.Logic.{_⊎_, inl, inr}
@@ -8,10 +8,10 @@ use native.Mathlib.Omega.{arith}
 use native.Mathlib.Decide.{ℕ-discrete, decLt}
 use lib.ListN.{length, getD, set, replicate, length-set, length-replicate, getD-replicate, List·getD-eq-default}
 use lib.Seq.{getD-set-same, getD-set-other}
-use Rattle.lookup.specs.Lookup.{startOf, lengthOf, hasCode, stopNamed, putCode}
-use Rattle.lookup.specs.LookupLaws.{start-put, length-put, start-kept, length-kept, placed-more, has-kept, none-named}
+use Rattle.lookup.specs.Lookup.{codeStart, codeLength, hasCode, stopNamed, putCode}
+use Rattle.lookup.specs.LookupLaws.{each-code, placed-more, has-kept, none-named}
 use Rattle.lookup.specs.Mark.{markOf}
-use Rattle.lookup.specs.Index.{slotCount, probes, way, placeOf, probed, entryOf, AtHome, markAt, Indexed, Enterable, Vacant, Stood}
+use Rattle.lookup.specs.Index.{slotCount, probes, way, slotFor, probed, entryOf, AtHome, markAt, CodesIndexed, Enterable, Vacant, Stood}
 
 -- a stop put into the first empty slot, or nowhere
 module _ {slots : List ℕ} {m p : ℕ} (v : Vacant slots m p) (j : ℕ) where
@@ -35,9 +35,9 @@ module _ {slots : List ℕ} {m p : ℕ} (v : Vacant slots m p) (j : ℕ) where
       only q (no d) = inl (other q d)
 
       -- a slot of the way that is not behind the new stop's is taken
-      full : (i : ℕ) → i ≤ v .turn → Dec (placeOf (way m i) ≡ p) → 0 < probed (set slots p (entryOf m j)) m i
+      full : (i : ℕ) → i ≤ v .turn → Dec (slotFor (way m i) ≡ p) → 0 < probed (set slots p (entryOf m j)) m i
       full i l (yes e) = rw (e, here) (omega arith)
-      full i l (no d) = rw (other (placeOf (way m i)) d) (v .taken i (before (ℕ-discrete i (v .turn))))
+      full i l (no d) = rw (other (slotFor (way m i)) d) (v .taken i (before (ℕ-discrete i (v .turn))))
         where
           before : Dec (i ≡ v .turn) → i < v .turn
           before (yes e) = absurd (d (rw e (sym (v .empty h .0))))
@@ -46,7 +46,7 @@ module _ {slots : List ℕ} {m p : ℕ} (v : Vacant slots m p) (j : ℕ) where
       home : (i : ℕ) → i < probes → probed (set slots p (entryOf m j)) m i ≡ 0 → Dec (v .turn < i) →
           (k : ℕ) × (k < i) × (probed (set slots p (entryOf m j)) m k ≡ entryOf m j)
       home i l e (yes b) = (v .turn, b, rw (← v .empty h .0) here)
-      home i l e (no b) = absurd (omega (arith, e, full i (omega arith) (ℕ-discrete (placeOf (way m i)) p)))
+      home i l e (no b) = absurd (omega (arith, e, full i (omega arith) (ℕ-discrete (slotFor (way m i)) p)))
 
   pub stood-nowhere : slotCount ≤ p → Stood slots slots m j
   stood-nowhere h =
@@ -57,19 +57,12 @@ module _ {slots : List ℕ} {m p : ℕ} (v : Vacant slots m p) (j : ℕ) where
         home = λ i l e. absurd (omega (arith, e, v .taken i (omega (arith, v .full h))));
       }
 
-module _ (s codes : List ℕ) (j start n : ℕ) where
-  mark-kept : (i : ℕ) → i < j → markAt s (putCode codes j start n) i ≡ markAt s codes i
-  mark-kept i h = rw (start-kept codes j start n i h, length-kept codes j start n i h)
-
-  mark-new : 2 * j + 2 ≤ length codes → markAt s (putCode codes j start n) j ≡ markOf s start n
-  mark-new h = rw (start-put codes j start n h, length-put codes j start n h)
-
 -- a stop that stood in the index still does
 home-kept : {before after : List ℕ} {m j : ℕ} → Stood before after m j → (w i : ℕ) → AtHome before w i → AtHome after w i
 home-kept {before} {after} {m} {j} x w i h k l e =
-    let was : probed before w k ≡ 0 = empty (placeOf (way w k)) e in
+    let was : probed before w k ≡ 0 = empty (slotFor (way w k)) e in
     let (q, b, there) = h k l was in
-    (q, b, x .kept (placeOf (way w q)) (omega (arith, there)) ∙ there)
+    (q, b, x .kept (slotFor (way w q)) (omega (arith, there)) ∙ there)
   where
     empty : (p : ℕ) → getD after p 0 ≡ 0 → getD before p 0 ≡ 0
     empty p z = go (getD before p 0) refl
@@ -83,26 +76,21 @@ pub enterable-new : {s codes : List ℕ} {j start n : ℕ} → Enterable s codes
 unfolding stopNamed
 enterable-new {s} {codes} {j} {start} {n} y = none-named s codes s start n j j (y .new)
 
-module _ {s codes : List ℕ} {j : ℕ} {slots : List ℕ} (x : Indexed s codes j slots) {start n : ℕ} (y : Enterable s codes j start n) where
-  pub entered : {m : ℕ} {after : List ℕ} → m ≡ markOf s start n → Stood slots after m j → Indexed s (putCode codes j start n) (j + 1) after
+module _ {s codes : List ℕ} {j : ℕ} {slots : List ℕ} (x : CodesIndexed s codes j slots) {start n : ℕ} (y : Enterable s codes j start n) where
+  pub entered : {m : ℕ} {after : List ℕ} → m ≡ markOf s start n → Stood slots after m j → CodesIndexed s (putCode codes j start n) (j + 1) after
   entered {m} {after} e z =
       record {
         codes-placed = placed-more codes j start n (x .codes-placed) (y .room) (y .within);
         few = omega (arith, y .few);
         slots-long = z .long ∙ x .slots-long;
-        no-two = λ i h k l. no-two i h k l (ℕ-discrete i j);
+        no-two = each-code codes j start n (λ i a b. (k : ℕ) → k < i → hasCode s (putCode codes j start n) s a b k ≡ false) (y .room)
+            (λ k l. has-kept s codes s start n j start n k l ∙ y .new k l)
+            (λ i h k l. has-kept s codes s (codeStart codes i) (codeLength codes i) j start n k (omega arith) ∙ x .no-two i h k l);
         known = λ p h. known p h (z .only p);
-        home = λ i h. home i h (ℕ-discrete i j);
+        home = each-code codes j start n (λ i a b. AtHome after (markOf s a b) i) (y .room) (rw (← e) (z .home))
+            (λ i h. home-kept z (markAt s codes i) i (x .home i h));
       }
     where
-      no-two : (i : ℕ) → i < j + 1 → (k : ℕ) → k < i → Dec (i ≡ j) →
-          hasCode s (putCode codes j start n) s (startOf (putCode codes j start n) i) (lengthOf (putCode codes j start n) i) k ≡ false
-      no-two i h k l (yes d) =
-          rw (d, start-put codes j start n (y .room), length-put codes j start n (y .room), has-kept s codes s start n j start n k (omega arith)) (y .new k (omega arith))
-      no-two i h k l (no d) =
-          let i′ : i < j = omega arith in
-          rw (start-kept codes j start n i i′, length-kept codes j start n i i′, has-kept s codes s (startOf codes i) (lengthOf codes i) j start n k (omega arith)) (x .no-two i i′ k l)
-
       known : (p : ℕ) → 0 < getD after p 0 → (getD after p 0 ≡ getD slots p 0) ⊎ (getD after p 0 ≡ entryOf m j) →
           (0 < getD after p 0 % 256) × (getD after p 0 % 256 ≤ j + 1)
       known p h (inl d) =
@@ -110,18 +98,12 @@ module _ {s codes : List ℕ} {j : ℕ} {slots : List ℕ} (x : Indexed s codes 
           rw d (k .0, omega (arith, k .1))
       known p h (inr d) = rw d (omega (arith, y .few), omega (arith, y .few))
 
-      home : (i : ℕ) → i < j + 1 → Dec (i ≡ j) → AtHome after (markAt s (putCode codes j start n) i) i
-      home i h (yes d) = rw (d, mark-new s codes j start n (y .room), ← e) (z .home)
-      home i h (no d) =
-          let i′ : i < j = omega arith in
-          rw (mark-kept s codes j start n i i′) (home-kept z (markAt s codes i) i (x .home i i′))
-
 nothing : (n p : ℕ) → Dec (p < n) → getD {A = ℕ} (replicate n 0) p 0 ≡ 0
 nothing n p (yes h) = getD-replicate {A = ℕ} n p 0 0 h
 nothing n p (no h) = List·getD-eq-default {A = ℕ} (replicate n 0) 0 (simp (length-replicate {A = ℕ}) (omega arith))
 
 -- the index of no codes is all zero
-pub entered-none : (s codes : List ℕ) → Indexed s codes 0 (replicate slotCount 0)
+pub entered-none : (s codes : List ℕ) → CodesIndexed s codes 0 (replicate slotCount 0)
 entered-none s codes =
     record {
       codes-placed = record { listed = omega arith; placed = λ j h. absurd (omega arith) };

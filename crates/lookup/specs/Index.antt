@@ -8,8 +8,8 @@ use mathlib.Core.Bool.{Bool, false, cond}
 use lib.ListN.{length, getD}
 use lib.Dec.{eqb}
 use Rattle.kinds.specs.Limits.{mostStops, mostText}
-use Rattle.lookup.specs.Lookup.{startOf, lengthOf, hasCode, Placed}
-use Rattle.lookup.specs.Mark.{markOf}
+use Rattle.lookup.specs.Lookup.{codeStart, codeLength, hasCode, Placed}
+use Rattle.lookup.specs.Mark.{marksBelow, markOf}
 
 abbrev pub slotCount : ℕ
 slotCount = 2048
@@ -27,12 +27,12 @@ unfoldable pub way : ℕ → ℕ → ℕ
 way m zero = m
 way m (suc i) = onwardOf (way m i)
 
-unfoldable pub placeOf : ℕ → ℕ
-placeOf x = x / 8388608 % slotCount
+unfoldable pub slotFor : ℕ → ℕ
+slotFor x = x / 8388608 % slotCount
 
 -- what stands in slot i of the mark's way
 abbrev pub probed : List ℕ → ℕ → ℕ → ℕ
-probed slots m i = getD slots (placeOf (way m i)) 0
+probed slots m i = getD slots (slotFor (way m i)) 0
 
 -- What stands in a stop's slot: its mark and one more than its number. In an empty slot 0 stands.
 abbrev pub entryOf : ℕ → ℕ → ℕ
@@ -47,13 +47,13 @@ abbrev pub AtHome : List ℕ → ℕ → ℕ → Type 0
 AtHome slots m j = (i : ℕ) → i < probes → probed slots m i ≡ 0 → (k : ℕ) × (k < i) × (probed slots m k ≡ entryOf m j)
 
 abbrev pub markAt : List ℕ → List ℕ → ℕ → ℕ
-markAt s codes j = markOf s (startOf codes j) (lengthOf codes j)
+markAt s codes j = markOf s (codeStart codes j) (codeLength codes j)
 
-pub record Indexed (s codes : List ℕ) (stops : ℕ) (slots : List ℕ) : Type 0 where
+pub record CodesIndexed (s codes : List ℕ) (stops : ℕ) (slots : List ℕ) : Type 0 where
   pub codes-placed : Placed s codes stops
   pub few : stops ≤ mostStops
   pub slots-long : length slots ≡ slotCount
-  pub no-two : (j : ℕ) → j < stops → (i : ℕ) → i < j → hasCode s codes s (startOf codes j) (lengthOf codes j) i ≡ false
+  pub no-two : (j : ℕ) → j < stops → (i : ℕ) → i < j → hasCode s codes s (codeStart codes j) (codeLength codes j) i ≡ false
   pub known : (p : ℕ) → 0 < getD slots p 0 → (0 < getD slots p 0 % 256) × (getD slots p 0 % 256 ≤ stops)
   pub home : (j : ℕ) → j < stops → AtHome slots (markAt s codes j) j
 
@@ -69,7 +69,7 @@ pub record Enterable (s codes : List ℕ) (stops start n : ℕ) : Type 0 where
 pub record Vacant (slots : List ℕ) (m p : ℕ) : Type 0 where
   pub turn : ℕ
   pub taken : (k : ℕ) → k < turn → 0 < probed slots m k
-  pub empty : p < slotCount → (p ≡ placeOf (way m turn)) × (getD slots p 0 ≡ 0)
+  pub empty : p < slotCount → (p ≡ slotFor (way m turn)) × (getD slots p 0 ≡ 0)
   pub full : slotCount ≤ p → probes ≤ turn
 
 -- stop j put into the index: what stood there still does, nothing else was put there, and j is at home
@@ -78,3 +78,15 @@ pub record Stood (before after : List ℕ) (m j : ℕ) : Type 0 where
   pub kept : (p : ℕ) → 0 < getD before p 0 → getD after p 0 ≡ getD before p 0
   pub only : (p : ℕ) → (getD after p 0 ≡ getD before p 0) ⊎ (getD after p 0 ≡ entryOf m j)
   pub home : AtHome after m j
+
+-- x is number i on the mark's way
+pub record OnWay (m x i : ℕ) : Type 0 where
+  pub is : x ≡ way m i
+  pub small : x < marksBelow
+  pub low : i ≤ probes
+
+-- the walk along a mark's way: the slots that were passed are taken, and none of them has a stop with the code
+pub record Finding (s codes slots t : List ℕ) (a n m x i : ℕ) : Type 0 where
+  pub along : OnWay m x i
+  pub taken : (k : ℕ) → k < i → 0 < probed slots m k
+  pub passed : (k : ℕ) → k < i → (j : ℕ) → j < mostStops → probed slots m k ≡ entryOf m j → hasCode s codes t a n j ≡ false

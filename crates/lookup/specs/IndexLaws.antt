@@ -9,49 +9,38 @@ use native.Mathlib.Decide.{ℕ-discrete}
 use lib.ListN.{getD}
 use lib.Dec.{eqb}
 use borrow.Author.Tests.{eq-eqb}
-use Rattle.loops.specs.Chain.{stays}
+use Rattle.loops.specs.ChainLaws.{stays}
 use Rattle.kinds.specs.Limits.{mostStops}
-use Rattle.lookup.specs.Lookup.{startOf, hasCode, stopNamed}
+use Rattle.lookup.specs.Lookup.{codeStart, hasCode, stopNamed}
 use Rattle.lookup.specs.LookupLaws.{none-named, one-named, has-told, has-both}
 use Rattle.lookup.specs.Mark.{marksBelow, markOf}
 use Rattle.lookup.specs.MarkLaws.{mark-same}
-use Rattle.lookup.specs.Index.{slotCount, probes, onwardOf, way, placeOf, probed, entryOf, isEntry, markAt, Indexed, Vacant}
+use Rattle.lookup.specs.Index.{slotCount, probes, onwardOf, way, slotFor, probed, entryOf, isEntry, markAt, CodesIndexed, Vacant, OnWay, Finding}
 
 -- a stop with the code has the code's mark
 code-mark : (s codes t : List ℕ) (a n j : ℕ) → hasCode s codes t a n j ≡ true → markAt s codes j ≡ markOf t a n
 code-mark s codes t a n j e =
     let z = has-told s codes t a n j e in
-    rw (z .0) (mark-same s (startOf codes j) t a n (z .1))
+    rw (z .0) (mark-same s (codeStart codes j) t a n (z .1))
 
--- x is number i on the mark's way
-pub record Along (m x i : ℕ) : Type 0 where
-  pub is : x ≡ way m i
-  pub small : x < marksBelow
-  pub low : i ≤ probes
-
-pub along-none : (m : ℕ) → m < marksBelow → Along m m 0
+pub along-none : (m : ℕ) → m < marksBelow → OnWay m m 0
 unfolding way
 along-none m h = record { is = refl; small = h; low = omega arith }
 
-pub along-more : {m x y i : ℕ} → Along m x i → i < probes → y ≡ onwardOf x → y < marksBelow → Along m y (i + 1)
+pub along-more : {m x y i : ℕ} → OnWay m x i → i < probes → y ≡ onwardOf x → y < marksBelow → OnWay m y (i + 1)
 unfolding way
 along-more f h e l = record { is = rw (add-one, e, ← f .is); small = l; low = omega arith }
 
 -- the slot that x stands for
-pub along-slot : {m x p i : ℕ} (slots : List ℕ) → Along m x i → p ≡ placeOf x → getD slots p 0 ≡ probed slots m i
+pub along-slot : {m x p i : ℕ} (slots : List ℕ) → OnWay m x i → p ≡ slotFor x → getD slots p 0 ≡ probed slots m i
 along-slot slots f e = rw (e, f .is)
-
--- the slots that were passed are taken, and none of them has a stop with the code
-pub record Finding (s codes slots t : List ℕ) (a n m x i : ℕ) : Type 0 where
-  pub along : Along m x i
-  pub taken : (k : ℕ) → k < i → 0 < probed slots m k
-  pub passed : (k : ℕ) → k < i → (j : ℕ) → j < mostStops → probed slots m k ≡ entryOf m j → hasCode s codes t a n j ≡ false
 
 pub finding-none : (s codes slots t : List ℕ) (a n m : ℕ) → m < marksBelow → Finding s codes slots t a n m m 0
 finding-none s codes slots t a n m h = record { along = along-none m h; taken = λ k l. absurd (omega arith); passed = λ k l. absurd (omega arith) }
 
 -- an entry that is not that of a stop with the code
-not-entry : (s codes : List ℕ) (e m : ℕ) (t : List ℕ) (a n j : ℕ) → isEntry s codes e m t a n ≡ false → j < mostStops → e ≡ entryOf m j → hasCode s codes t a n j ≡ false
+not-entry : (s codes : List ℕ) (e m : ℕ) (t : List ℕ) (a n j : ℕ) → isEntry s codes e m t a n ≡ false → j < mostStops → e ≡ entryOf m j →
+    hasCode s codes t a n j ≡ false
 unfolding isEntry
 not-entry s codes e m t a n j f l h =
     let q : e / 256 ≡ m = omega arith in
@@ -62,7 +51,7 @@ pub is-entry : (s codes : List ℕ) (e m : ℕ) (t : List ℕ) (a n : ℕ) → i
 unfolding isEntry
 is-entry s codes e m t a n h = stays (eqb (e / 256) m) h (λ x. let y : _≡_ {A = ℕ} 0 1 = cc in omega arith) .1
 
-pub finding-more : {s codes slots t : List ℕ} {a n m x y p i : ℕ} → Finding s codes slots t a n m x i → i < probes → p ≡ placeOf x →
+pub finding-more : {s codes slots t : List ℕ} {a n m x y p i : ℕ} → Finding s codes slots t a n m x i → i < probes → p ≡ slotFor x →
     0 < getD slots p 0 → isEntry s codes (getD slots p 0) m t a n ≡ false → y ≡ onwardOf x → y < marksBelow → Finding s codes slots t a n m y (i + 1)
 finding-more {s} {codes} {slots} {t} {a} {n} {m} {x} {y} {p} {i} f h e full g o l =
     record {
@@ -81,17 +70,17 @@ finding-more {s} {codes} {slots} {t} {a} {n} {m} {x} {y} {p} {i} f h e full g o 
 
 -- an empty slot is the first one; behind the last slot there is none
 module _ {s codes slots t : List ℕ} {a n m x i : ℕ} (f : Finding s codes slots t a n m x i) where
-  pub finding-vacant : {p : ℕ} → p ≡ placeOf x → getD slots p 0 ≡ 0 → p < slotCount → Vacant slots m p
+  pub finding-vacant : {p : ℕ} → p ≡ slotFor x → getD slots p 0 ≡ 0 → p < slotCount → Vacant slots m p
   finding-vacant {p} e g l =
       record { turn = i; taken = f .taken; empty = λ b. (e ∙ rw (f .along .is), g); full = λ b. absurd (omega arith) }
 
   pub finding-full : probes ≤ i → Vacant slots m slotCount
   finding-full h = record { turn = i; taken = f .taken; empty = λ b. absurd (omega arith); full = λ b. h }
 
-module _ {s codes : List ℕ} {stops : ℕ} {slots : List ℕ} (x : Indexed s codes stops slots) where
+module _ {s codes : List ℕ} {stops : ℕ} {slots : List ℕ} (x : CodesIndexed s codes stops slots) where
   -- an empty slot: no stop has the code, since it would have been passed
-  pub finding-empty : {t : List ℕ} {a n m at p i : ℕ} → Finding s codes slots t a n m at i → m ≡ markOf t a n → i < probes → p ≡ placeOf at → getD slots p 0 ≡ 0 →
-      stops ≡ stopNamed s codes stops t a n
+  pub finding-empty : {t : List ℕ} {a n m at p i : ℕ} → Finding s codes slots t a n m at i → m ≡ markOf t a n → i < probes → p ≡ slotFor at →
+      getD slots p 0 ≡ 0 → stops ≡ stopNamed s codes stops t a n
   unfolding stopNamed
   finding-empty {t} {a} {n} {m} {at} {p} {i} f w h e g =
       none-named s codes t a n stops stops (λ j l. go j l (hasCode s codes t a n j) refl)

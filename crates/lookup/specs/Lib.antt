@@ -1,4 +1,5 @@
 pub mod Lookup
+pub mod Scanning
 pub mod LookupLaws
 pub mod Mark
 pub mod MarkLaws

@@ -6,16 +6,27 @@ use lib.ListN.{length, getD}
 use lib.Dec.{eqb}
 use Rattle.loops.specs.Every.{sameB}
 use Rattle.loops.specs.Put.{putFrom}
+use Rattle.kinds.specs.Kinds.{CodeIn}
+use Rattle.kinds.specs.declared.Code.{Code}
 
-abbrev pub startOf : List ℕ → ℕ → ℕ
-startOf codes j = getD codes (2 * j) 0
+abbrev pub codeStart : List ℕ → ℕ → ℕ
+codeStart codes j = getD codes (2 * j) 0
 
-abbrev pub lengthOf : List ℕ → ℕ → ℕ
-lengthOf codes j = getD codes (2 * j + 1) 0
+abbrev pub codeLength : List ℕ → ℕ → ℕ
+codeLength codes j = getD codes (2 * j + 1) 0
+
+-- where the code of stop j stands
+abbrev pub codeAt : List ℕ → ℕ → Code
+codeAt codes j = record { start = codeStart codes j; length = codeLength codes j }
+
+-- the code of stop j is in the list and stands in the text s
+pub record Named (s codes : List ℕ) (j : ℕ) : Type 0 where
+  pub listed : 2 * j + 2 ≤ length codes
+  pub code : CodeIn s (codeAt codes j)
 
 -- stop j's code, which stands in the text s, is the n bytes of t from a on: as long as they, and the same bytes
 unfoldable pub hasCode : List ℕ → List ℕ → List ℕ → ℕ → ℕ → ℕ → Bool
-hasCode s codes t a n j = cond (eqb (lengthOf codes j) n) (sameB s (startOf codes j) t a n) false
+hasCode s codes t a n j = cond (eqb (codeLength codes j) n) (sameB s (codeStart codes j) t a n) false
 
 -- the number of the stop with that code, among the first k (no two have one code, so there is one at most); else `none`
 unfoldable pub stopIn : List ℕ → List ℕ → List ℕ → ℕ → ℕ → ℕ → ℕ → ℕ
@@ -33,4 +44,4 @@ putCode codes j start n = putFrom codes (2 * j) (start ∷ n ∷ [])
 -- the codes of the first k stops are in the list, and stand in the text
 pub record Placed (s codes : List ℕ) (k : ℕ) : Type 0 where
   pub listed : 2 * k ≤ length codes
-  pub placed : (j : ℕ) → j < k → startOf codes j + lengthOf codes j ≤ length s
+  pub placed : (j : ℕ) → j < k → codeStart codes j + codeLength codes j ≤ length s

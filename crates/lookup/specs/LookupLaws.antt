@@ -9,11 +9,12 @@ use native.Mathlib.Nat.{add-zero}
 use lib.ListN.{length}
 use lib.Dec.{eqb}
 use borrow.Author.Tests.{eqb-true, eq-eqb}
-use Rattle.loops.specs.Chain.{stays}
+use Rattle.loops.specs.ChainLaws.{stays}
 use Rattle.loops.specs.Every.{sameB}
 use Rattle.loops.specs.EveryLaws.{same-at, same-of}
 use Rattle.loops.specs.PutLaws.{put-length, put-before, put-at}
-use Rattle.lookup.specs.Lookup.{startOf, lengthOf, hasCode, stopIn, stopNamed, putCode, Placed}
+use Rattle.lookup.specs.Lookup.{codeStart, codeLength, hasCode, stopIn, stopNamed, putCode, Placed}
+use Rattle.lookup.specs.Scanning.{Scanning}
 
 pub placed-fewer : {s codes : List ℕ} {k m : ℕ} → Placed s codes k → m ≤ k → Placed s codes m
 placed-fewer p h = record { listed = omega (arith, p .listed); placed = λ j l. p .placed j (omega arith) }
@@ -31,35 +32,37 @@ module _ (codes : List ℕ) (j start n : ℕ) where
   pub code-length : length (putCode codes j start n) ≡ length codes
   code-length = put-length codes (2 * j) (start ∷ n ∷ [])
 
-  pub start-put : 2 * j + 2 ≤ length codes → startOf (putCode codes j start n) j ≡ start
+  start-put : 2 * j + 2 ≤ length codes → codeStart (putCode codes j start n) j ≡ start
   start-put h = rw add-zero at (put-at codes (2 * j) (start ∷ n ∷ []) 0 (omega arith) h)
 
-  pub length-put : 2 * j + 2 ≤ length codes → lengthOf (putCode codes j start n) j ≡ n
+  length-put : 2 * j + 2 ≤ length codes → codeLength (putCode codes j start n) j ≡ n
   length-put h = put-at codes (2 * j) (start ∷ n ∷ []) 1 (omega arith) h
 
   -- the codes of other stops stay
-  pub start-kept : (i : ℕ) → i < j → startOf (putCode codes j start n) i ≡ startOf codes i
+  start-kept : (i : ℕ) → i < j → codeStart (putCode codes j start n) i ≡ codeStart codes i
   start-kept i h = put-before codes (2 * j) (start ∷ n ∷ []) (2 * i) (omega arith)
 
-  pub length-kept : (i : ℕ) → i < j → lengthOf (putCode codes j start n) i ≡ lengthOf codes i
+  length-kept : (i : ℕ) → i < j → codeLength (putCode codes j start n) i ≡ codeLength codes i
   length-kept i h = put-before codes (2 * j) (start ∷ n ∷ []) (2 * i + 1) (omega arith)
+
+  -- what holds of the code put in and of each code before it holds of each of them
+  pub each-code : (P : ℕ → ℕ → ℕ → Type 0) → 2 * j + 2 ≤ length codes → P j start n →
+      ((i : ℕ) → i < j → P i (codeStart codes i) (codeLength codes i)) →
+      (i : ℕ) → i < j + 1 → P i (codeStart (putCode codes j start n) i) (codeLength (putCode codes j start n) i)
+  each-code P h new old i b = go (ℕ-discrete i j)
+    where
+      go : Dec (i ≡ j) → P i (codeStart (putCode codes j start n) i) (codeLength (putCode codes j start n) i)
+      go (yes e) = rw (e, start-put h, length-put h) new
+      go (no e) = rw (start-kept i (omega arith), length-kept i (omega arith)) (old i (omega arith))
 
   pub placed-more : {s : List ℕ} → Placed s codes j → 2 * j + 2 ≤ length codes → start + n ≤ length s → Placed s (putCode codes j start n) (j + 1)
   placed-more {s} p h l =
       record {
         listed = omega (arith, code-length);
-        placed = λ i b. go i (ℕ-discrete i j) b;
+        placed = each-code (λ i a m. a + m ≤ length s) h l (p .placed);
       }
-    where
-      go : (i : ℕ) → Dec (i ≡ j) → i < j + 1 → startOf (putCode codes j start n) i + lengthOf (putCode codes j start n) i ≤ length s
-      go i (yes e) b = rw (e, start-put h, length-put h) l
-      go i (no e) b = rw (start-kept i (omega arith), length-kept i (omega arith)) (p .placed i (omega arith))
 
 -- the plain search, from the last stop down
-pub record Scanning (s codes : List ℕ) (stops : ℕ) (t : List ℕ) (a n k : ℕ) : Type 0 where
-  pub high : k ≤ stops
-  pub rest : stopNamed s codes stops t a n ≡ stopIn s codes t a n stops k
-
 pub scanning-all : (s codes : List ℕ) (stops : ℕ) (t : List ℕ) (a n : ℕ) → Scanning s codes stops t a n stops
 unfolding stopNamed
 scanning-all s codes stops t a n = record { high = omega arith; rest = refl }
@@ -89,7 +92,8 @@ none-in s codes t a n none (suc k) le h i lt = go (λ g l. none-in s codes t a n
     go below false e g (yes d) = rw d e
     go below false e g (no d) = below g (omega arith)
 
-pub named-none : (s codes : List ℕ) (stops : ℕ) (t : List ℕ) (a n : ℕ) → stops ≤ stopNamed s codes stops t a n → (i : ℕ) → i < stops → hasCode s codes t a n i ≡ false
+pub named-none : (s codes : List ℕ) (stops : ℕ) (t : List ℕ) (a n : ℕ) → stops ≤ stopNamed s codes stops t a n →
+    (i : ℕ) → i < stops → hasCode s codes t a n i ≡ false
 unfolding stopNamed
 named-none s codes stops t a n h i lt = none-in s codes t a n stops stops (omega arith) h i lt
 
@@ -115,22 +119,22 @@ one-named s codes t a n none (suc k) j l e h = go (λ d. one-named s codes t a n
     go below (no d) = rw (h k (omega arith) (omega arith)) (below (omega arith))
 
 -- a stop with the code is as long and has the same bytes; two stops with one code have each other's
-pub has-told : (s codes t : List ℕ) (a n j : ℕ) → hasCode s codes t a n j ≡ true → (lengthOf codes j ≡ n) × (sameB s (startOf codes j) t a n ≡ true)
+pub has-told : (s codes t : List ℕ) (a n j : ℕ) → hasCode s codes t a n j ≡ true → (codeLength codes j ≡ n) × (sameB s (codeStart codes j) t a n ≡ true)
 unfolding hasCode
 has-told s codes t a n j e =
-    let z = stays (eqb (lengthOf codes j) n) e (λ x. let y : _≡_ {A = ℕ} 0 1 = cc in omega arith) in
-    (eqb-true (lengthOf codes j) n (z .0), z .1)
+    let z = stays (eqb (codeLength codes j) n) e (λ x. let y : _≡_ {A = ℕ} 0 1 = cc in omega arith) in
+    (eqb-true (codeLength codes j) n (z .0), z .1)
 
-has-made : (s codes t : List ℕ) (a n i : ℕ) → lengthOf codes i ≡ n → sameB s (startOf codes i) t a n ≡ true → hasCode s codes t a n i ≡ true
+has-made : (s codes t : List ℕ) (a n i : ℕ) → codeLength codes i ≡ n → sameB s (codeStart codes i) t a n ≡ true → hasCode s codes t a n i ≡ true
 unfolding hasCode
-has-made s codes t a n i l e = rw (eq-eqb (lengthOf codes i) n l, e)
+has-made s codes t a n i l e = rw (eq-eqb (codeLength codes i) n l, e)
 
 pub has-both : (s codes t : List ℕ) (a n i j : ℕ) → hasCode s codes t a n i ≡ true → hasCode s codes t a n j ≡ true →
-    hasCode s codes s (startOf codes j) (lengthOf codes j) i ≡ true
+    hasCode s codes s (codeStart codes j) (codeLength codes j) i ≡ true
 has-both s codes t a n i j f g =
     let x = has-told s codes t a n i f in
     let y = has-told s codes t a n j g in
     rw (y .0)
-    (has-made s codes s (startOf codes j) n i (x .0)
-    (same-of s (startOf codes i) s (startOf codes j) n
-    (λ k l. same-at s (startOf codes i) t a n (x .1) k l ∙ sym (same-at s (startOf codes j) t a n (y .1) k l))))
+    (has-made s codes s (codeStart codes j) n i (x .0)
+    (same-of s (codeStart codes i) s (codeStart codes j) n
+    (λ k l. same-at s (codeStart codes i) t a n (x .1) k l ∙ sym (same-at s (codeStart codes j) t a n (y .1) k l))))

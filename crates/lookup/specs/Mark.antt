@@ -1,5 +1,6 @@
 -- A code's mark: a number that equal codes share. No meaning rests on it: what is looked up is said in Lookup.antt.
-use Prim.Native.Nat.{ℕ, zero, suc, _+_, _*_, _-_, _/_, _%_, _<_}
+use Prim.Native.Nat.{ℕ, zero, suc, _+_, _*_, _-_, _/_, _%_, _≤_, _<_}
+use mathlib.Core.Path.{_≡_}
 use mathlib.Core.List.{List}
 use mathlib.Core.Bool.{cond}
 use lib.ListN.{getD}
@@ -76,3 +77,13 @@ markOfBytes t a k =
 
 abbrev pub markOf : List ℕ → ℕ → ℕ → ℕ
 markOf t a n = markOfBytes t a (markedBytes n)
+
+-- n bytes of s from a on are those of t from b on
+pub record Alike (s : List ℕ) (a : ℕ) (t : List ℕ) (b n : ℕ) : Type 0 where
+  pub byte : (k : ℕ) → k < n → getD s (a + k) 0 ≡ getD t (b + k) 0
+
+-- the loop over the blocks: i of them are mixed in
+pub record Mixing (t : List ℕ) (a k count : ℕ) (m : Mix) (i : ℕ) : Type 0 where
+  pub is : m ≡ blocksOf t a (startOfMix k) i
+  pub small : Small m
+  pub low : i ≤ count

@@ -13,7 +13,7 @@ use borrow.Author.Tests.{ltb-true, ltb-false, eq-eqb}
 use Rattle.loops.specs.Every.{sameB}
 use Rattle.loops.specs.EveryLaws.{same-at}
 use Rattle.kinds.specs.Limits.{mostCode}
-use Rattle.lookup.specs.Mark.{wordsBelow, Small, markedBytes, wordAt, mixedOf, startOfMix, blocksOf, fewAt, endsOf, markOfBytes, markOf}
+use Rattle.lookup.specs.Mark.{wordsBelow, Small, markedBytes, wordAt, mixedOf, startOfMix, blocksOf, fewAt, endsOf, markOfBytes, markOf, Alike, Mixing}
 use Rattle.lookup.specs.declared.Mix.{Mix}
 use Rattle.lookup.specs.declared.Ends.{Ends}
 
@@ -24,10 +24,6 @@ marked-few n = go (ltb n mostCode) (ltb-true n mostCode) (ltb-false n mostCode)
     go : (b : Bool) → (b ≡ true → n < mostCode) → (b ≡ false → mostCode ≤ n) → (cond b n mostCode ≤ n) × (cond b n mostCode ≤ mostCode)
     go true f g = (omega arith, omega (arith, f refl))
     go false f g = (omega (arith, g refl), omega arith)
-
--- n bytes of s from a on are those of t from b on
-record Alike (s : List ℕ) (a : ℕ) (t : List ℕ) (b n : ℕ) : Type 0 where
-  byte : (k : ℕ) → k < n → getD s (a + k) 0 ≡ getD t (b + k) 0
 
 module _ {s : List ℕ} {a : ℕ} {t : List ℕ} {b n : ℕ} (h : Alike s a t b n) where
   -- a part of them
@@ -91,11 +87,6 @@ mixed-small m w v small h l =
     }
 
 -- the loop over the blocks
-pub record Mixing (t : List ℕ) (a k count : ℕ) (m : Mix) (i : ℕ) : Type 0 where
-  pub is : m ≡ blocksOf t a (startOfMix k) i
-  pub small : Small m
-  pub low : i ≤ count
-
 pub mixing-none : (t : List ℕ) (a k count : ℕ) → k ≤ mostCode → Mixing t a k count (startOfMix k) 0
 unfolding blocksOf
 mixing-none t a k count h =

@@ -3,10 +3,21 @@ use kinds::Code;
 ghost use mathlib.Core.Path.{_≡_};
 ghost use Prim.Native.Nat.{_+_, _*_, _-_, _%_, _≤_, _<_};
 ghost use lib.ListN.{length};
-ghost use Rattle.lookup.specs.Lookup.{hasCode, stopNamed, putCode, Placed};
+ghost use Rattle.lookup.specs.Lookup.{codeAt, hasCode, stopNamed, putCode, Placed};
 ghost use Rattle.kinds.specs.Limits.{mostStops, mostCode};
 ghost use Rattle.lookup.specs.Mark.{wordsBelow, marksBelow, Small, markedBytes, wordAt, mixedOf, startOfMix, blocksOf, fewAt, endsOf, markOf};
-ghost use Rattle.lookup.specs.Index.{slotCount, placeOf, onwardOf, isEntry, Indexed, Enterable, Vacant, Stood};
+ghost use Rattle.lookup.specs.Index.{slotCount, slotFor, onwardOf, isEntry, CodesIndexed, Enterable, Vacant, Stood};
+
+// Where the code of stop j stands.
+pub fn code_at(codes: &[u32], j: usize) -> Code
+    requires { ⌜ 2 * j + 2 ≤ length (now codes) ⌝ }
+    ensures { λ r. ⌜ r ≡ codeAt (now (codes .entry)) j ⌝ }
+{
+    Code {
+        start: codes[2 * j],
+        length: codes[2 * j + 1],
+    }
+}
 
 // Whether stop j, whose code stands in s, has the code that is n bytes of t from `from` on.
 pub fn has_code(s: &[u8], codes: &[u32], j: usize, t: &[u8], from: usize, n: usize) -> bool
@@ -161,7 +172,7 @@ fn mark(t: &[u8], from: usize, n: usize) -> u64
 
 // The slot that a number on a mark's way stands for.
 fn place(x: u64) -> usize
-    ensures { λ r. ⌜ (r ≡ placeOf x) × (r < slotCount) ⌝ }
+    ensures { λ r. ⌜ (r ≡ slotFor x) × (r < slotCount) ⌝ }
 {
     (x / 8388608 % 2048) as usize
 }
@@ -196,7 +207,7 @@ fn walk(
     from: usize,
     n: usize,
 ) -> Walked
-    requires { ⌜ Indexed (now s) (now codes) stops (now slots) ⌝ }
+    requires { ⌜ CodesIndexed (now s) (now codes) stops (now slots) ⌝ }
     requires { ⌜ from + n ≤ length (now t) ⌝ }
     ensures { λ r. ⌜ r .stop ≡ stopNamed (now (s .entry)) (now (codes .entry)) stops (now (t .entry)) from n ⌝ }
     ensures { λ r. ⌜ (r .mark ≡ markOf (now (t .entry)) from n) × (r .mark < marksBelow) ⌝ }
@@ -242,7 +253,7 @@ pub fn find(
     from: usize,
     n: usize,
 ) -> u32
-    requires { ⌜ Indexed (now s) (now codes) stops (now slots) ⌝ }
+    requires { ⌜ CodesIndexed (now s) (now codes) stops (now slots) ⌝ }
     requires { ⌜ from + n ≤ length (now t) ⌝ }
     ensures { λ r. ⌜ r ≡ stopNamed (now (s .entry)) (now (codes .entry)) stops (now (t .entry)) from n ⌝ }
 {
@@ -263,10 +274,10 @@ fn stand(slots: &mut [u64], m: u64, p: usize, stop: u32)
 
 // The code of the next stop, put into the list and into the index.
 pub fn enter(s: &[u8], codes: &mut [u32], slots: &mut [u64], stops: u32, start: usize, n: usize)
-    requires { ⌜ Indexed (now s) (now codes) stops (now slots) ⌝ }
+    requires { ⌜ CodesIndexed (now s) (now codes) stops (now slots) ⌝ }
     requires { ⌜ Enterable (now s) (now codes) stops start n ⌝ }
     ensures { λ _. ⌜ now (codes .exit) ≡ putCode (now (codes .entry)) stops start n ⌝ }
-    ensures { λ _. ⌜ Indexed (now (s .entry)) (now (codes .exit)) (stops + 1) (now (slots .exit)) ⌝ }
+    ensures { λ _. ⌜ CodesIndexed (now (s .entry)) (now (codes .exit)) (stops + 1) (now (slots .exit)) ⌝ }
 {
     let j = stops as usize;
     let w = walk(s, codes, slots, stops, s, start, n);

@@ -9,7 +9,7 @@ use native.Mathlib.Numerals.{add-one}
 use native.Mathlib.Nat.{eq-or-lt-of-le}
 use lib.ListN.{getD}
 use lib.Dec.{eqb}
-use borrow.Author.Tests.{eqb-true, eq-eqb}
+use borrow.Author.Tests.{eqb-true, eq-eqb, ne-eqb}
 use Rattle.loops.specs.Every.{allB, sameB}
 
 pub all-none : (p : ℕ → Bool) → allB p 0 ≡ true
@@ -50,3 +50,17 @@ same-at s a t b n e k lt = eqb-true _ _ (all-at (λ k. eqb (getD s (a + k) 0) (g
 pub same-of : (s : List ℕ) (a : ℕ) (t : List ℕ) (b n : ℕ) → ((k : ℕ) → k < n → getD s (a + k) 0 ≡ getD t (b + k) 0) → sameB s a t b n ≡ true
 unfolding sameB
 same-of s a t b n h = all-of (λ k. eqb (getD s (a + k) 0) (getD t (b + k) 0)) n (λ k l. eq-eqb _ _ (h k l))
+
+-- the turns of the loop that compares
+module _ (s : List ℕ) (a : ℕ) (t : List ℕ) (b : ℕ) where
+  pub same-none : sameB s a t b 0 ≡ true
+  unfolding sameB
+  same-none = all-none _
+
+  pub same-more : (k : ℕ) → sameB s a t b k ≡ true → getD s (a + k) 0 ≡ getD t (b + k) 0 → sameB s a t b (k + 1) ≡ true
+  unfolding sameB
+  same-more k h e = all-more _ k h (eq-eqb _ _ e)
+
+  pub same-fails : (n k : ℕ) → k < n → (getD s (a + k) 0 ≡ getD t (b + k) 0 → ⊥) → sameB s a t b n ≡ false
+  unfolding sameB
+  same-fails n k l d = all-fails _ n k l (ne-eqb _ _ d)

@@ -29,7 +29,8 @@ module _ (f : ℕ → ℕ) where
   filled-at zero l j lt le = absurd (omega arith)
   filled-at (suc k) l j lt le =
       ⊎-elim
-      (λ (e : j ≡ k). subst (λ (i : ℕ). getD (set (filled f k l) k (f k)) i 0 ≡ f i) (sym e) (getD-set-same (filled f k l) k (f k) 0 (omega (arith, length-filled k l))))
+      (λ (e : j ≡ k). subst (λ (i : ℕ). getD (set (filled f k l) k (f k)) i 0 ≡ f i) (sym e)
+      (getD-set-same (filled f k l) k (f k) 0 (omega (arith, length-filled k l))))
       (λ (h : j < k). getD-set-other (filled f k l) k j (f k) 0 (λ e. omega arith) ∙ filled-at k l j h (omega arith)) (eq-or-lt-of-le (omega arith))
 
   pub filled-beyond : (k : ℕ) (l : List ℕ) (j : ℕ) → k ≤ j → getD (filled f k l) j 0 ≡ getD l j 0

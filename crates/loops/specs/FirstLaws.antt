@@ -42,16 +42,28 @@ first-extend {P} {f} {g} {to} {r} p a = record { passed = record { low = omega (
 
 -- what is decided is found
 pub first-at : (P : ℕ → Type 0) → ((k : ℕ) → Dec (P k)) → (f to : ℕ) → f ≤ to → (r : ℕ) × FirstAt P f to r
-first-at P dec f zero le = (0, record { passed = record { low = le; none = λ k a b h. absurd (omega arith) }; high = omega arith; here = λ l. absurd (omega arith) })
+first-at P dec f zero le = (
+  0,
+  record {
+    passed = record { low = le; none = λ k a b h. absurd (omega arith) };
+    high = omega arith;
+    here = λ l. absurd (omega arith);
+  },
+)
 first-at P dec f (suc to) le = go (decLe f to) (λ l. first-at P dec f to l)
   where
     step : (r : ℕ) → FirstAt P f to r → Dec (r < to) → Dec (P to) → (r : ℕ) × FirstAt P f (suc to) r
     step r a (yes l) d = (r, record { passed = a .passed; high = omega arith; here = λ _. a .here l })
-    step r a (no l) (yes h) = let e : r ≡ to = omega (arith, a .high) in (r, record { passed = a .passed; high = omega (arith, a .high); here = λ _. subst P (sym e) h })
+    step r a (no l) (yes h) = let e : r ≡ to = omega (arith, a .high) in
+        (r, record { passed = a .passed; high = omega (arith, a .high); here = λ _. subst P (sym e) h })
     step r a (no l) (no n) = (
       suc to,
       record {
-        passed = record { low = le; none = λ k x y h. elim (decLt k to) [ yes b ↦ a .passed .none k x (omega (arith, a .high)) h | no b ↦ n (subst P (omega arith) h) ] };
+        passed = record {
+          low = le;
+          none = λ k x y h. elim
+              (decLt k to) [ yes b ↦ a .passed .none k x (omega (arith, a .high)) h | no b ↦ n (subst P (omega arith) h) ];
+        };
         high = le-refl (suc to);
         here = λ x. absurd (omega arith);
       },
@@ -59,4 +71,11 @@ first-at P dec f (suc to) le = go (decLe f to) (λ l. first-at P dec f to l)
 
     go : Dec (f ≤ to) → (f ≤ to → (r : ℕ) × FirstAt P f to r) → (r : ℕ) × FirstAt P f (suc to) r
     go (yes l) ih = let s = ih l in step (s .0) (s .1) (decLt (s .0) to) (dec to)
-    go (no l) ih = (suc to, record { passed = record { low = le; none = λ k x y h. absurd (omega arith) }; high = le-refl (suc to); here = λ x. absurd (omega arith) })
+    go (no l) ih = (
+      suc to,
+      record {
+        passed = record { low = le; none = λ k x y h. absurd (omega arith) };
+        high = le-refl (suc to);
+        here = λ x. absurd (omega arith);
+      },
+    )

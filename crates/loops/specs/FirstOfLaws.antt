@@ -6,14 +6,7 @@ use mathlib.Core.Logic.{⊎-elim}
 use native.Mathlib.Omega.{arith}
 use native.Mathlib.Numerals.{add-one}
 use native.Mathlib.Nat.{eq-or-lt-of-le}
-use Rattle.loops.specs.FirstOf.{orElse, firstOf}
-
--- the first finding is x, and it was made here
-pub record FoundAt {A : Type 0} (f : ℕ → Option A) (n : ℕ) (x : A) : Type 0 where
-  pub at : ℕ
-  pub below : at < n
-  pub has : f at ≡ some x
-  pub clear : (k : ℕ) → k < at → f k ≡ none
+use Rattle.loops.specs.FirstOf.{orElse, firstOf, FoundAt}
 
 module _ {A : Type 0} (f : ℕ → Option A) where
   pub first-of-none : firstOf f 0 ≡ none

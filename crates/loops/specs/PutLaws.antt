@@ -1,7 +1,7 @@
 -- Laws of `putFrom`: what stands at each place.
 use Prim.Native.Nat.{ℕ, zero, suc, _+_, _≤_, _<_}
 use mathlib.Core.Path.{_≡_, refl, ap, _∙_}
-use mathlib.Core.List.{List, [], _∷_}
+use mathlib.Core.List.{List, [], _∷_, _++_}
 use native.Mathlib.Omega.{arith}
 use native.Mathlib.Nat.{add-zero}
 use lib.ListN.{length, getD, set, length-set}
@@ -11,6 +11,13 @@ use Rattle.loops.specs.Put.{putFrom}
 pub put-length : (l : List ℕ) (i : ℕ) (vs : List ℕ) → length (putFrom l i vs) ≡ length l
 put-length l i [] = refl
 put-length l i (v ∷ vs) = put-length (set l i v) (i + 1) vs ∙ length-set l i v
+
+-- one list behind the other
+pub put-append : (vs l : List ℕ) (i : ℕ) (ws : List ℕ) → putFrom (putFrom l i vs) (i + length vs) ws ≡ putFrom l i (vs ++ ws)
+put-append [] l i ws = rw add-zero
+put-append (v ∷ vs) l i ws =
+    let e : i + suc (length vs) ≡ i + 1 + length vs = omega arith in
+    rw e (put-append vs (set l i v) (i + 1) ws)
 
 pub put-before : (l : List ℕ) (i : ℕ) (vs : List ℕ) (j : ℕ) → j < i → getD (putFrom l i vs) j 0 ≡ getD l j 0
 put-before l i [] j h = refl

@@ -38,7 +38,15 @@ module _ (l r e : List ℕ) where
   unfolding written
   two-fit h =
       let n : length e ≡ length l + (length e - length l) = omega arith in
-      rw (take-all (length e) l h, take-at l (drop (length l) e) (length l) refl, drop-at l (drop (length l) e) (length l) refl, length-drop, drop-drop, length-append, ← append-assoc)
+      rw (
+        take-all (length e) l h,
+        take-at l (drop (length l) e) (length l) refl,
+        drop-at l (drop (length l) e) (length l) refl,
+        length-drop,
+        drop-drop,
+        length-append,
+        ← append-assoc,
+      )
       (ap (λ (z : List ℕ). z ++ drop (length l + length r) e) (sym (ap (λ (k : ℕ). take k (l ++ r)) n ∙ take-append-add l r (length e - length l))))
 
   -- l fills the buffer, and nothing is left of it

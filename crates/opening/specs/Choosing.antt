@@ -1,10 +1,15 @@
 -- Where the answer (d, a) from u to v is taken apart: "for its rides, a single label goes before a joined pair, and then the lowest hub number".
 use Prim.Native.Nat.{ℕ, _≤_, _<_}
 use mathlib.Core.Path.{_≡_}
+use mathlib.Core.List.{List}
 use mathlib.Core.Option.{Option}
+use Rattle.loops.specs.First.{Passed}
 use Rattle.kinds.specs.declared.Label as kinds
-use Rattle.journeys.specs.Tables.{Tables, ins, Label, JoinAt}
-use Rattle.tables.specs.File.{pivotOf}
+use Rattle.journeys.specs.Tables.{Tables, outs, ins, Label, JoinAt}
+use Rattle.tables.specs.File.{tablesOf, pivotOf}
+use Rattle.label_sets.specs.declared.Moment.the-variants.{Arriving}
+use Rattle.label_sets.specs.Seek.{Past}
+use Rattle.label_sets.specs.Sets.{SetAt}
 use Rattle.opening.specs.declared.Way.{Way}
 use Rattle.opening.specs.declared.Way.the-variants.{Through, Nowhere}
 
@@ -25,6 +30,17 @@ pub record JoinsAt (T : Tables) (v d a k : ℕ) : Type 0 where
   pub hub : T .hub second ≡ T .hub k
   pub arrives : T .arr second ≡ a
   pub meets : T .arr k ≤ T .dep second
+
+-- the search for the lowest hub, between the bounds of both sets, has come to out-label k of u: none of those before it joins, and the
+-- labels that those from k on can join stand at `place` or after it
+pub record HubsTo (b : List ℕ) (n u v d a outFrom outTo inFrom inTo place k : ℕ) : Type 0 where
+  pub out-set : SetAt b n outs u outFrom outTo
+  pub in-set : SetAt b n ins v inFrom inTo
+  pub low : tablesOf b .start outs u ≤ k
+  pub high : k ≤ outTo
+  pub none : Passed (JoinsAt (tablesOf b) v d a) (tablesOf b .start outs u) k
+  pub behind : (j : ℕ) → k ≤ j → j < outTo → Passed (Past (tablesOf b) (tablesOf b .hub j) (Arriving a)) (tablesOf b .start ins v) place
+  pub place-high : place ≤ inTo
 
 -- h is "the lowest hub number", or there is no joined pair
 pub record LowestHub (T : Tables) (u v d a h : ℕ) : Type 0 where

@@ -1,21 +1,24 @@
 // The rides of a label and of an answer, opened into a lent list.
 use kinds::Label;
-use pieces::Moment;
-use pieces::Parted;
-use pieces::Sought;
-use pieces::Span;
+use label_sets::Moment;
+use label_sets::Parted;
+use label_sets::Sought;
+use label_sets::Span;
+use timetable::Given;
 ghost use mathlib.Core.Path.{_≡_};
-ghost use Prim.Native.Nat.{ℕ, min, _≤_, _<_};
+ghost use Prim.Native.Nat.{_≤_, _<_};
+ghost use lib.ListN.{length};
 ghost use Rattle.loops.specs.Tells.{Tells};
 ghost use Rattle.kinds.specs.Limits.{noPivot};
 ghost use Rattle.journeys.specs.Tables.{Tables};
 ghost use Rattle.journeys.specs.Rides.{Chosen};
 ghost use Rattle.tables.specs.File.{tablesOf, labelsOf};
 ghost use Rattle.tables.specs.Good.{Room};
-ghost use Rattle.timetable.specs.Numbers.{serviceOf};
-ghost use Rattle.ground.specs.Ground.{Ready, ByDeparture, Ground};
-ghost use Rattle.pieces.specs.Pieces.{SpanIn};
-ghost use Rattle.opening.specs.Opening.{SpanOpens, OpenedAs, OpenedInto};
+ghost use Rattle.timetable.specs.Slots.{serviceOf};
+ghost use Rattle.departures.specs.Departures.{ByDeparture};
+ghost use Rattle.label_sets.specs.Starts.{startsRoom, Started};
+ghost use Rattle.label_sets.specs.Sets.{SpanIn};
+ghost use Rattle.opening.specs.Opening.{behindStarts, Ground, SpanOpens, OpenedAs, OpenedInto};
 ghost use Rattle.opening.specs.Choosing.{Joins, HubAs, WayAs};
 
 // How many rides there are, or that one is missing.
@@ -30,29 +33,23 @@ enum Way {
     Nowhere,
 }
 
-fn lesser(a: usize, b: usize) -> usize
-    ensures { λ r. ⌜ r ≡ min a b ⌝ }
-{
-    if a < b {
-        return a;
-    }
-    b
-}
-
-// With no pivot: the lowest-numbered run, listed where there is room.
-fn open_run(runs: &[u32], count: usize, room: &[u16], s: Span, list: &mut [u32]) -> Opened
-    requires { ⌜ ((n : ℕ) × ByDeparture n (now room) (now runs) count) ⌝ }
+// With no pivot: the lowest-numbered ride with the label's ends and minutes, its run listed where there is room.
+fn open_run(given: Given, runs: &[u32], room: &[u16], s: Span, list: &mut [u32]) -> Opened
+    requires { ⌜ startsRoom ≤ length (now room) ⌝ }
+    requires { ⌜ ByDeparture given (now runs) (behindStarts (now room)) ⌝ }
     requires { ⌜ s .pivot ≡ noPivot ⌝ }
-    ensures { λ r. ⌜ ((stops : ℕ) (T : Tables) → OpenedAs (SpanOpens (serviceOf stops count (now (runs .entry))) T s) (now (list .entry)) (now (list .exit)) r) ⌝ }
+    ensures { λ r. ⌜ ((T : Tables) →
+        OpenedAs (SpanOpens (serviceOf given (now (runs .entry))) T s) (now (list .entry)) (now (list .exit)) r) ⌝ }
 {
-    let i = pieces::find_run(runs, count, room, s);
-    if count <= i {
+    let index = &room[label_sets::STARTS..];
+    let slot = departures::find(given, runs, index, s.from, s.to, s.dep, s.arr);
+    if timetable::slots(given) <= slot {
         return Opened::Missing;
     }
     if list.len() == 0 {
         return Opened::Rides(1);
     }
-    list[0] = i as u32;
+    list[0] = timetable::slot_run(slot) as u32;
     Opened::Rides(1)
 }
 
@@ -62,19 +59,20 @@ fn open_span(
     tables: &[u8],
     n: u16,
     room: &[u16],
+    given: Given,
     runs: &[u32],
-    count: usize,
     s: Span,
     list: &mut [u32],
 ) -> Opened
-    requires { ⌜ Ground (now tables) n (now room) (now runs) count ⌝ }
+    requires { ⌜ Ground (now tables) n (now room) given (now runs) ⌝ }
     requires { ⌜ SpanIn n s ⌝ }
-    ensures { λ r. ⌜ OpenedAs (SpanOpens (serviceOf n count (now (runs .entry))) (tablesOf (now (tables .entry))) s) (now (list .entry)) (now (list .exit)) r ⌝ }
+    ensures { λ r. ⌜ OpenedAs (SpanOpens (serviceOf given (now (runs .entry))) (tablesOf (now (tables .entry))) s)
+        (now (list .entry)) (now (list .exit)) r ⌝ }
 {
     if s.pivot == Label::NO_PIVOT {
-        return open_run(runs, count, room, s, list);
+        return open_run(given, runs, room, s, list);
     }
-    let parted = pieces::halves(tables, n, room, s);
+    let parted = label_sets::halves(tables, n, room, s);
     match parted {
         Parted::Missing => Opened::Missing,
         Parted::Met(h) => {
@@ -85,11 +83,11 @@ fn open_span(
                 arr: h.mid,
                 pivot: h.first,
             };
-            let a = open_span(tables, n, room, runs, count, first, list);
+            let a = open_span(tables, n, room, given, runs, first, list);
             match a {
                 Opened::Missing => Opened::Missing,
                 Opened::Rides(k) => {
-                    let start = lesser(k, list.len());
+                    let start = loops::lesser_usize(k, list.len());
                     let second = Span {
                         from: s.pivot,
                         to: s.to,
@@ -97,7 +95,7 @@ fn open_span(
                         arr: s.arr,
                         pivot: h.second,
                     };
-                    let b = open_span(tables, n, room, runs, count, second, &mut list[start..]);
+                    let b = open_span(tables, n, room, given, runs, second, &mut list[start..]);
                     match b {
                         Opened::Missing => Opened::Missing,
                         Opened::Rides(m) => Opened::Rides(k + m),
@@ -136,19 +134,19 @@ fn joins(tables: &[u8], n: u16, l: Label, d: u16, a: u16, place: usize, to: usiz
 // The lowest hub at which an out-label of u that leaves at d meets an in-label of v that arrives at a. Hubs never fall in either set, so
 // the place among the in-labels only moves forward.
 fn lowest_hub(tables: &[u8], n: u16, starts: &[u16], u: u16, v: u16, d: u16, a: u16) -> Way
-    requires { ⌜ Ready (now tables) n (now starts) ⌝ }
+    requires { ⌜ Started (now tables) n (now starts) ⌝ }
     requires { ⌜ (u < n) × (v < n) ⌝ }
     ensures { λ r. ⌜ HubAs (tablesOf (now (tables .entry))) u v d a r ⌝ }
 {
     let outs = 2 * (u as usize);
-    let out_to = ground::start_at(starts, outs + 1);
+    let out_to = label_sets::start_at(starts, outs + 1);
     let ins = 2 * (v as usize) + 1;
-    let in_to = ground::start_at(starts, ins + 1);
-    let mut place = ground::start_at(starts, ins);
-    let mut k = ground::start_at(starts, outs);
+    let in_to = label_sets::start_at(starts, ins + 1);
+    let mut place = label_sets::start_at(starts, ins);
+    let mut k = label_sets::start_at(starts, outs);
     while k < out_to {
         let l = tables::label_at(tables, n, k);
-        place = pieces::seek(tables, n, place, in_to, l.hub, Moment::Arriving(a));
+        place = label_sets::seek(tables, n, place, in_to, l.hub, Moment::Arriving(a));
         if joins(tables, n, l, d, a, place, in_to) {
             return Way::Through(l.hub);
         }
@@ -159,11 +157,11 @@ fn lowest_hub(tables: &[u8], n: u16, starts: &[u16], u: u16, v: u16, d: u16, a: 
 
 // A single label goes before a joined pair, and then the lowest hub number.
 fn way_of(tables: &[u8], n: u16, starts: &[u16], u: u16, v: u16, d: u16, a: u16) -> Way
-    requires { ⌜ Ready (now tables) n (now starts) ⌝ }
+    requires { ⌜ Started (now tables) n (now starts) ⌝ }
     requires { ⌜ (u < n) × (v < n) ⌝ }
     ensures { λ r. ⌜ WayAs (tablesOf (now (tables .entry))) u v d a r ⌝ }
 {
-    let single = pieces::find(tables, n, starts, u, v, Moment::Leaving(d));
+    let single = label_sets::find(tables, n, starts, u, v, Moment::Leaving(d));
     match single {
         Sought::Found(_, l) => {
             if l.arr == a {
@@ -180,17 +178,18 @@ pub fn open_answer(
     tables: &[u8],
     n: u16,
     room: &[u16],
+    given: Given,
     runs: &[u32],
-    count: usize,
     u: u16,
     v: u16,
     d: u16,
     a: u16,
     list: &mut [u32],
 ) -> Opened
-    requires { ⌜ Ground (now tables) n (now room) (now runs) count ⌝ }
+    requires { ⌜ Ground (now tables) n (now room) given (now runs) ⌝ }
     requires { ⌜ (u < n) × (v < n) ⌝ }
-    ensures { λ r. ⌜ OpenedInto (Chosen (serviceOf n count (now (runs .entry))) (tablesOf (now (tables .entry))) u v d a) (now (list .entry)) (now (list .exit)) r ⌝ }
+    ensures { λ r. ⌜ OpenedInto (Chosen (serviceOf given (now (runs .entry))) (tablesOf (now (tables .entry))) u v d a)
+        (now (list .entry)) (now (list .exit)) r ⌝ }
 {
     let way = way_of(tables, n, room, u, v, d, a);
     match way {
@@ -206,7 +205,7 @@ pub fn open_answer(
                 arr: a,
                 pivot,
             };
-            let opened = open_span(tables, n, room, runs, count, s, list);
+            let opened = open_span(tables, n, room, given, runs, s, list);
             match opened {
                 Opened::Rides(k) => Opened::Rides(k),
                 Opened::Missing => {

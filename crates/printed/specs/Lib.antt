@@ -1,6 +1,8 @@
 pub mod Printed
+pub mod Decimal
 pub mod DecimalLaws
 pub mod Wrote
+pub mod Copying
 pub mod WroteLaws
-pub mod ReadBack
+pub mod ReadBackLaws
 pub mod LineLaws

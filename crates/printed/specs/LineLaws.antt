@@ -9,7 +9,7 @@ use lib.Seq.{take-append-seam}
 use Rattle.kinds.specs.declared.Code.{Code}
 use Rattle.words.specs.Words.{lf, valueOf}
 use Rattle.printed.specs.Printed.{mostDigits, decimal, atLine, rideLine, noLine, noPlaceLine}
-use Rattle.printed.specs.ReadBack.{Decimal, decimal-in}
+use Rattle.printed.specs.ReadBackLaws.{is-decimal}
 
 pub at-some : (dep arr rides : ℕ) → 0 < length (atLine dep arr rides)
 unfolding atLine
@@ -26,10 +26,6 @@ no-some number = omega arith
 pub no-place-some : (number place : ℕ) → 0 < length (noPlaceLine number place)
 unfolding noPlaceLine
 no-place-some number place = omega arith
-
-is-decimal : (n : ℕ) → n < 10 ^ mostDigits → Decimal (decimal n) n
-unfolding decimal
-is-decimal n h = decimal-in 9 n h
 
 pub no-one : (m n : ℕ) → m < 10 ^ mostDigits → n < 10 ^ mostDigits → noLine m ≡ noLine n → m ≡ n
 unfolding noLine

@@ -1,23 +1,18 @@
 -- Laws of what was written: one piece after the other, and what the buffer then holds.
-use Prim.Native.Nat.{ℕ, suc, _+_, _/_, _%_, _^_, _≤_, _<_}
+use Prim.Native.Nat.{ℕ, _+_, _/_, _%_, _^_, _≤_, _<_}
 use mathlib.Core.Path.{_≡_, refl, ap, sym, _∙_}
 use mathlib.Core.List.{List, [], _∷_, _++_}
 use native.Mathlib.Omega.{arith}
-use native.Mathlib.Nat.{add-zero, zero-add}
+use native.Mathlib.Nat.{zero-add}
 use native.Mathlib.Numerals.{add-one}
 use lib.ListN.{length, getD, take, drop, set, length-append, length-drop}
 use lib.Seq.{take-all, take-suc, getD-take, getD-drop, length-take-le, ext-getD}
 use Rattle.loops.specs.Put.{putFrom}
-use Rattle.loops.specs.PutLaws.{put-length, put-at}
+use Rattle.loops.specs.PutLaws.{put-length, put-append, put-at}
 use Rattle.printed.specs.Printed.{digit, mostDigits, decimal}
 use Rattle.printed.specs.DecimalLaws.{decimal-small, decimal-more}
 use Rattle.printed.specs.Wrote.{Wrote}
-
-put-append : (xs l : List ℕ) (i : ℕ) (ys : List ℕ) → putFrom (putFrom l i xs) (i + length xs) ys ≡ putFrom l i (xs ++ ys)
-put-append [] l i ys = rw add-zero
-put-append (x ∷ xs) l i ys =
-    let e : i + suc (length xs) ≡ i + 1 + length xs = omega arith in
-    rw e (put-append xs (set l i x) (i + 1) ys)
+use Rattle.printed.specs.Copying.{Copying}
 
 module _ {l : List ℕ} {i : ℕ} {xs m : List ℕ} {j : ℕ} (w : Wrote l i xs m j) where
   pub wrote-length : length m ≡ length l
@@ -46,11 +41,7 @@ wrote-first {l} {xs} {m} {j} w h = ext-getD 0 (take j m) xs long (λ k lt. at k 
     at k lt =
         getD-take j m k 0 (omega (arith, w .end)) ∙ rw (w .is) (ap (λ (p : ℕ). getD (putFrom l 0 xs) p 0) (sym (zero-add k)) ∙ put-at l 0 xs k lt (omega arith))
 
--- the loop that copies: k of the n bytes of xs have been written
-pub record Copying (l : List ℕ) (i : ℕ) (xs m : List ℕ) (k : ℕ) : Type 0 where
-  pub is : m ≡ putFrom l i (take k xs)
-  pub high : k ≤ length xs
-
+-- the loop that copies
 pub copying-none : (l : List ℕ) (i : ℕ) (xs : List ℕ) → Copying l i xs l 0
 copying-none l i xs = record { is = refl; high = omega arith }
 
@@ -83,7 +74,8 @@ module _ (s : List ℕ) (from n : ℕ) (h : from + n ≤ length s) where
 pub wrote-digit : (l : List ℕ) (i n : ℕ) → n < 10 → Wrote l i (decimal n) (set l i (digit n)) (i + 1)
 wrote-digit l i n h = rw (decimal-small n h) (record { is = refl; end = refl })
 
-pub wrote-tenth : {l m : List ℕ} {i j : ℕ} (n : ℕ) → 10 ≤ n → n < 10 ^ mostDigits → Wrote l i (decimal (n / 10)) m j → Wrote l i (decimal n) (set m j (digit (n % 10))) (j + 1)
+pub wrote-tenth : {l m : List ℕ} {i j : ℕ} (n : ℕ) → 10 ≤ n → n < 10 ^ mostDigits →
+    Wrote l i (decimal (n / 10)) m j → Wrote l i (decimal n) (set m j (digit (n % 10))) (j + 1)
 wrote-tenth n h k w = rw (decimal-more n h k) (wrote-then w (record { is = refl; end = refl }))
 
 -- a byte before

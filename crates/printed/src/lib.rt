@@ -7,8 +7,9 @@ ghost use Prim.Native.Nat.{_+_, _≤_, _<_};
 ghost use lib.ListN.{length, take, drop};
 ghost use Rattle.words.specs.Words.{lf, space};
 ghost use Rattle.kinds.specs.Limits.{mostCode};
-ghost use Rattle.printed.specs.Printed.{mostDigits, decimal, codeOf, atLine, rideLine, noLine, noPlaceLine, lineRoom};
-ghost use Rattle.printed.specs.Wrote.{Wrote, CodeIn};
+ghost use Rattle.kinds.specs.Kinds.{CodeIn};
+ghost use Rattle.printed.specs.Printed.{mostDigits, decimal, codeOf, atLine, rideLine, noLine, noPlaceLine, longestLine};
+ghost use Rattle.printed.specs.Wrote.{Wrote};
 
 // As many digits as a number can have.
 const DIGITS: usize = 10;
@@ -18,7 +19,7 @@ pub const LINE_ROOM: usize = 4 + 2 * (1 + Code::MOST) + 3 * (1 + DIGITS) + 1;
 
 pub fn line_room() -> usize
     ensures { λ r. do ⌜ r ≡ (← ⟦LINE_ROOM⟧ .entry) ⌝ }
-    ensures { λ r. ⌜ r ≡ lineRoom ⌝ }
+    ensures { λ r. ⌜ r ≡ longestLine ⌝ }
 {
     LINE_ROOM
 }
@@ -82,9 +83,9 @@ pub fn put_lf(out: &mut [u8], at: usize) -> usize
 
 // "at DEP ARR RIDES"
 pub fn at_line(out: &mut [u8], dep: u32, arr: u32, rides: u32) -> usize
-    requires { ⌜ lineRoom ≤ length (now out) ⌝ }
+    requires { ⌜ longestLine ≤ length (now out) ⌝ }
     ensures { λ r. ⌜ Wrote (now (out .entry)) 0 (atLine dep arr rides) (now (out .exit)) r ⌝ }
-    ensures { λ r. ⌜ r ≤ lineRoom ⌝ }
+    ensures { λ r. ⌜ r ≤ longestLine ⌝ }
 {
     let a = put_part(out, 0, b"at", 0, 2);
     let b = put_number(out, a, dep);
@@ -103,10 +104,10 @@ pub fn ride_line(
     arr: u32,
     trip: u32,
 ) -> usize
-    requires { ⌜ lineRoom ≤ length (now out) ⌝ }
+    requires { ⌜ longestLine ≤ length (now out) ⌝ }
     requires { ⌜ CodeIn (now text) from × CodeIn (now text) to ⌝ }
     ensures { λ r. ⌜ Wrote (now (out .entry)) 0 (rideLine (now (text .entry)) from to dep arr trip) (now (out .exit)) r ⌝ }
-    ensures { λ r. ⌜ r ≤ lineRoom ⌝ }
+    ensures { λ r. ⌜ r ≤ longestLine ⌝ }
 {
     let a = put_part(out, 0, b"ride", 0, 4);
     let b = put_code(out, a, text, from);
@@ -119,9 +120,9 @@ pub fn ride_line(
 
 // "no NUMBER"
 pub fn no_line(out: &mut [u8], number: u32) -> usize
-    requires { ⌜ lineRoom ≤ length (now out) ⌝ }
+    requires { ⌜ longestLine ≤ length (now out) ⌝ }
     ensures { λ r. ⌜ Wrote (now (out .entry)) 0 (noLine number) (now (out .exit)) r ⌝ }
-    ensures { λ r. ⌜ r ≤ lineRoom ⌝ }
+    ensures { λ r. ⌜ r ≤ longestLine ⌝ }
 {
     let a = put_part(out, 0, b"no", 0, 2);
     let b = put_number(out, a, number);
@@ -130,9 +131,9 @@ pub fn no_line(out: &mut [u8], number: u32) -> usize
 
 // "no NUMBER PLACE"
 pub fn no_place_line(out: &mut [u8], number: u32, place: u32) -> usize
-    requires { ⌜ lineRoom ≤ length (now out) ⌝ }
+    requires { ⌜ longestLine ≤ length (now out) ⌝ }
     ensures { λ r. ⌜ Wrote (now (out .entry)) 0 (noPlaceLine number place) (now (out .exit)) r ⌝ }
-    ensures { λ r. ⌜ r ≤ lineRoom ⌝ }
+    ensures { λ r. ⌜ r ≤ longestLine ⌝ }
 {
     let a = put_part(out, 0, b"no", 0, 2);
     let b = put_number(out, a, number);

@@ -14,8 +14,9 @@ use Rattle.asks.specs.declared.Answer.the-variants.{At, No}
 use Rattle.asks.specs.Asks.{askRead, asked, AnswersBy, Answers}
 use Rattle.verdict.specs.declared.Verdict.{Verdict}
 use Rattle.verdict.specs.declared.Verdict.the-variants as verdict
-use Rattle.timetable.specs.Numbers.{serviceOf}
-use Rattle.ground.specs.Ground.{groundRoom}
+use Rattle.timetable.specs.declared.Given.{Given}
+use Rattle.timetable.specs.Slots.{serviceOf}
+use Rattle.both.specs.Both.{workRoom}
 use Rattle.verdict.specs.Verdict.{Checked}
 use Rattle.loops.specs.Zero.{zeros}
 use Rattle.rides.specs.declared.RidesAnswer.{RidesAnswer}
@@ -37,10 +38,10 @@ AfterCheck verdict.Accepted S q x = TimetableAnswers S q x
 AfterCheck (verdict.No r) S q x = x ≡ No r
 
 -- an ask of tables from anyone, checked against the timetable's numbers
-pub record CheckedAsk (b : List ℕ) (stops count : ℕ) (list : List ℕ) (lent from to : ℕ) (w : Wanted) (x : Answer) : Type 0 where
+pub record CheckedAsk (b : List ℕ) (given : Given) (list : List ℕ) (lent from to : ℕ) (w : Wanted) (x : Answer) : Type 0 where
   pub verdict : Verdict
-  pub checked : Checked b stops count list lent verdict
-  pub answer : AfterCheck verdict (serviceOf stops count list) (askRead stops from to w) x
+  pub checked : Checked b given list lent verdict
+  pub answer : AfterCheck verdict (serviceOf given list) (askRead (given .stops) from to w) x
 
 -- the same with rides: "with rides, lent its rooms, the same and the list is such a journey"; 18 never comes
 abbrev pub TimetableLists : Service → Tables → AskRead → List ℕ → List ℕ → RidesAnswer → Type 0
@@ -51,19 +52,20 @@ abbrev pub AfterCheckLists : Verdict → Service → Tables → AskRead → List
 AfterCheckLists verdict.Accepted S T q before after x = TimetableLists S T q before after x
 AfterCheckLists (verdict.No r) S T q before after x = (x ≡ rides.No r) × (after ≡ zeros before)
 
-pub record CheckedRides (b : List ℕ) (stops count : ℕ) (list : List ℕ) (lent from to : ℕ) (w : Wanted) (before after : List ℕ) (x : RidesAnswer) : Type 0 where
+pub record CheckedRides (b : List ℕ) (given : Given) (list : List ℕ) (lent from to : ℕ) (w : Wanted) (before after : List ℕ) (x : RidesAnswer) : Type 0 where
   pub verdict : Verdict
-  pub checked : Checked b stops count list lent verdict
-  pub answer : AfterCheckLists verdict (serviceOf stops count list) (tablesOf b) (askRead stops from to w) before after x
+  pub checked : Checked b given list lent verdict
+  pub answer : AfterCheckLists verdict (serviceOf given list) (tablesOf b) (askRead (given .stops) from to w) before after x
 
 -- A file serves the timetable: the check accepts it, whatever room it is lent; and over it every ask, with and without rides, gets the timetable's best. Which
 -- asks are out of order is said by the stop count alone.
-pub record Serves (stops count : ℕ) (list file : List ℕ) : Type 0 where
-  pub accepted : (lent : ℕ) → groundRoom ≤ lent → (r : Verdict) → Checked file stops count list lent r → r ≡ verdict.Accepted
-  pub asks : (from to : ℕ) (w : Wanted) (x : Answer) → Answers (tablesOf file) (asked file from to w) x → TimetableAnswers (serviceOf stops count list) (askRead stops from to w) x
-  pub rides : (lent from to : ℕ) (w : Wanted) (before after : List ℕ) (x : RidesAnswer) → groundRoom ≤ lent →
-      Lists (serviceOf stops count list) (tablesOf file) (ridesAsked file stops count list lent from to w) before after x →
-      TimetableLists (serviceOf stops count list) (tablesOf file) (askRead stops from to w) before after x
+pub record Serves (given : Given) (list file : List ℕ) : Type 0 where
+  pub accepted : (lent : ℕ) → workRoom ≤ lent → (r : Verdict) → Checked file given list lent r → r ≡ verdict.Accepted
+  pub asks : (from to : ℕ) (w : Wanted) (x : Answer) → Answers (tablesOf file) (asked file from to w) x →
+      TimetableAnswers (serviceOf given list) (askRead (given .stops) from to w) x
+  pub rides : (lent from to : ℕ) (w : Wanted) (before after : List ℕ) (x : RidesAnswer) → workRoom ≤ lent →
+      Lists (serviceOf given list) (tablesOf file) (ridesAsked file given list lent from to w) before after x →
+      TimetableLists (serviceOf given list) (tablesOf file) (askRead (given .stops) from to w) before after x
 
 -- Demand 2 as calls: the builder writes the tables, and these are asked. What the builder refuses is refused.
 abbrev pub AfterBuild : BuildAnswer → Service → AskRead → Answer → Type 0
@@ -75,12 +77,12 @@ abbrev pub leftBy : Answer → List ℕ → List ℕ
 leftBy (At j) bytes = bytes
 leftBy (No r) bytes = zeros bytes
 
-pub record BuiltAsk (stops count : ℕ) (list : List ℕ) (work lent from to : ℕ) (w : Wanted) (tables : List ℕ) (x : Answer) : Type 0 where
+pub record BuiltAsk (given : Given) (list : List ℕ) (work lent from to : ℕ) (w : Wanted) (tables : List ℕ) (x : Answer) : Type 0 where
   pub answer : BuildAnswer
   pub bytes : List ℕ
   pub are : AreBytes bytes
-  pub built : BuildOf stops count list work lent answer bytes
-  pub asked : AfterBuild answer (serviceOf stops count list) (askRead stops from to w) x
+  pub built : BuildOf given list work lent answer bytes
+  pub asked : AfterBuild answer (serviceOf given list) (askRead (given .stops) from to w) x
   pub left : tables ≡ leftBy x bytes
 
 abbrev pub AfterBuildLists : BuildAnswer → Service → List ℕ → AskRead → List ℕ → List ℕ → RidesAnswer → Type 0
@@ -91,10 +93,10 @@ abbrev pub leftByRides : RidesAnswer → List ℕ → List ℕ
 leftByRides (rides.At j) bytes = bytes
 leftByRides (rides.No r) bytes = zeros bytes
 
-pub record BuiltRides (stops count : ℕ) (list : List ℕ) (work lent from to : ℕ) (w : Wanted) (tables before after : List ℕ) (x : RidesAnswer) : Type 0 where
+pub record BuiltRides (given : Given) (list : List ℕ) (work lent from to : ℕ) (w : Wanted) (tables before after : List ℕ) (x : RidesAnswer) : Type 0 where
   pub answer : BuildAnswer
   pub bytes : List ℕ
   pub are : AreBytes bytes
-  pub built : BuildOf stops count list work lent answer bytes
-  pub asked : AfterBuildLists answer (serviceOf stops count list) bytes (askRead stops from to w) before after x
+  pub built : BuildOf given list work lent answer bytes
+  pub asked : AfterBuildLists answer (serviceOf given list) bytes (askRead (given .stops) from to w) before after x
   pub left : tables ≡ leftByRides x bytes

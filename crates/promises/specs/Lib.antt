@@ -1,6 +1,7 @@
 pub mod Demands
 pub mod Calls
 pub mod AcceptedLaws
+pub mod Built
 pub mod BuiltLaws
 pub mod DemandsLaws
 pub mod CallsLaws

@@ -4,6 +4,7 @@ use asks::Answer;
 use asks::Wanted;
 use builder::BuildAnswer;
 use rides::RidesAnswer;
+use timetable::Given;
 use verdict::Verdict;
 ghost use mathlib.Core.Path.{_≡_};
 ghost use lib.ListN.{length};
@@ -13,18 +14,17 @@ ghost use Rattle.promises.specs.Calls.{CheckedAsk, CheckedRides, BuiltAs
 // Any ask of tables that the check accepts against the timetable; else the check's refusal.
 pub fn checked_ask(
     tables: &[u8],
-    stops: u32,
-    run_count: u32,
+    given: Given,
     runs: &[u32],
     from: u32,
     to: u32,
     w: Wanted,
     work: &mut [u16],
 ) -> Answer
-    ensures { λ r. ⌜ CheckedAsk (now (tables .entry)) stops «run_count» (now (runs .entry)) (length (now (work .entry))) from to w r ⌝ }
+    ensures { λ r. ⌜ CheckedAsk (now (tables .entry)) given (now (runs .entry)) (length (now (work .entry))) from to w r ⌝ }
     ensures { λ _. ⌜ now (work .exit) ≡ zeros (now (work .entry)) ⌝ }
 {
-    let verdict = verdict::check(tables, stops, run_count, runs, work);
+    let verdict = verdict::check(tables, given, runs, work);
     match verdict {
         Verdict::Accepted => asks::answered(tables, from, to, w),
         Verdict::No(r) => Answer::No(r),
@@ -34,8 +34,7 @@ pub fn checked_ask(
 // The same with the rides. The check's working room serves the ask as well: both need the same.
 pub fn checked_rides(
     tables: &[u8],
-    stops: u32,
-    run_count: u32,
+    given: Given,
     runs: &[u32],
     from: u32,
     to: u32,
@@ -43,22 +42,13 @@ pub fn checked_rides(
     list: &mut [u32],
     work: &mut [u16],
 ) -> RidesAnswer
-    ensures { λ r. ⌜ CheckedRides (now (tables .entry)) stops «run_count» (now (runs .entry)) (length (now (work .entry))) from to w (now (list .entry)) (now (list .exit)) r ⌝ }
+    ensures { λ r. ⌜ CheckedRides (now (tables .entry)) given (now (runs .entry)) (length (now (work .entry))) from to w (now (list .entry))
+        (now (list .exit)) r ⌝ }
     ensures { λ _. ⌜ now (work .exit) ≡ zeros (now (work .entry)) ⌝ }
 {
-    let verdict = verdict::check(tables, stops, run_count, runs, work);
+    let verdict = verdict::check(tables, given, runs, work);
     match verdict {
-        Verdict::Accepted => rides::answered(
-            tables,
-            stops,
-            run_count,
-            runs,
-            from,
-            to,
-            w,
-            list,
-            work,
-        ),
+        Verdict::Accepted => rides::answered(tables, given, runs, from, to, w, list, work),
         Verdict::No(r) => {
             loops::zero_u32(list);
             RidesAnswer::No(r)
@@ -68,8 +58,7 @@ pub fn checked_rides(
 
 // Any ask of the tables that the builder writes of the timetable; else the builder's refusal. Whatever is refused, the tables end zero.
 pub fn built_ask(
-    stops: u32,
-    run_count: u32,
+    given: Given,
     runs: &[u32],
     from: u32,
     to: u32,
@@ -77,10 +66,10 @@ pub fn built_ask(
     tables: &mut [u8],
     work: &mut [u16],
 ) -> Answer
-    ensures { λ r. ⌜ BuiltAsk stops «run_count» (now (runs .entry)) (length (now (work .entry))) (length (now (tables .entry))) from to w (now (tables .exit)) r ⌝ }
+    ensures { λ r. ⌜ BuiltAsk given (now (runs .entry)) (length (now (work .entry))) (length (now (tables .entry))) from to w (now (tables .exit)) r ⌝ }
     ensures { λ _. ⌜ now (work .exit) ≡ zeros (now (work .entry)) ⌝ }
 {
-    let answer = builder::build(stops, run_count, runs, tables, work);
+    let answer = builder::build(given, runs, tables, work);
     match answer {
         BuildAnswer::Built(length, _labels) => {
             let asked = asks::answered(&tables[..length as usize], from, to, w);
@@ -98,8 +87,7 @@ pub fn built_ask(
 
 // The same with the rides. The builder's working room serves the ask as well: it needs less.
 pub fn built_rides(
-    stops: u32,
-    run_count: u32,
+    given: Given,
     runs: &[u32],
     from: u32,
     to: u32,
@@ -108,16 +96,16 @@ pub fn built_rides(
     tables: &mut [u8],
     work: &mut [u16],
 ) -> RidesAnswer
-    ensures { λ r. ⌜ BuiltRides stops «run_count» (now (runs .entry)) (length (now (work .entry))) (length (now (tables .entry))) from to w (now (tables .exit)) (now (list .entry)) (now (list .exit)) r ⌝ }
+    ensures { λ r. ⌜ BuiltRides given (now (runs .entry)) (length (now (work .entry))) (length (now (tables .entry))) from to w (now (tables .exit))
+        (now (list .entry)) (now (list .exit)) r ⌝ }
     ensures { λ _. ⌜ now (work .exit) ≡ zeros (now (work .entry)) ⌝ }
 {
-    let answer = builder::build(stops, run_count, runs, tables, work);
+    let answer = builder::build(given, runs, tables, work);
     match answer {
         BuildAnswer::Built(length, _labels) => {
             let asked = rides::answered(
                 &tables[..length as usize],
-                stops,
-                run_count,
+                given,
                 runs,
                 from,
                 to,

@@ -1,36 +1,19 @@
 -- The loop over the lines: what is still to be read gives the whole outcome.
-use Prim.Native.Nat.{ℕ, zero, suc, _+_, _-_, _≤_, _<_}
-use mathlib.Core.Path.{_≡_, refl, sym, _∙_}
+use Prim.Native.Nat.{ℕ, _+_, _-_, _≤_}
+use mathlib.Core.Path.{_≡_}
 use mathlib.Core.List.{List}
-use mathlib.Core.Bool.{Bool, true, false, cond}
-use native.Mathlib.Omega.{arith}
-use lib.ListN.{length, length-set}
-use lib.Dec.{leb}
-use borrow.Author.Tests.{le-leb, lt-leb, leb-false, lt-ltb, le-ltb}
+use lib.ListN.{length}
 use Rattle.loops.specs.Zero.{zeros}
 use Rattle.kinds.specs.Limits.{mostRuns, mostText, runsRoom, codesRoom}
-use Rattle.kinds.specs.Refusals.{lineShape}
-use Rattle.kinds.specs.declared.Refusal.{Refusal}
-use Rattle.kinds.specs.declared.Code.{Code}
-use Rattle.kinds.specs.declared.Run.{Run}
-use Rattle.words.specs.Words.{lf, seek}
-use Rattle.words.specs.WordsLaws.{seek-end, seek-low}
-use Rattle.lookup.specs.Lookup.{putCode}
-use Rattle.lookup.specs.Index.{Indexed}
-use Rattle.lines.specs.Lines.{lineOf}
-use Rattle.lines.specs.LinesLaws.{run-known}
-use Rattle.reader.specs.Text.{Sofar, Outcome, whole, bad, putRun, withStop, withRun, next, readFrom, start, answerOf, runsOf, codesOf}
-use Rattle.reader.specs.declared.Counts.{Counts}
-use Rattle.lines.specs.declared.Line.{Line}
-use Rattle.lines.specs.declared.Line.the-variants as kind
-use Rattle.reader.specs.declared.ReadAnswer.the-variants.{Read, No}
+use Rattle.lookup.specs.Index.{CodesIndexed}
+use Rattle.reader.specs.Text.{Sofar, ReadOutcome, whole, bad, readFrom, start, GoodRead}
 
 -- the lines from a on, read into rooms of these lengths
-unfoldable pub linesOf : List ℕ → ℕ → ℕ → ℕ → Outcome
+unfoldable pub linesOf : List ℕ → ℕ → ℕ → ℕ → ReadOutcome
 linesOf s a runs codes = readFrom (length s) s a (start runs codes)
 
 -- what the loop leaves in the rooms: the whole lists where the text was read whole, anything where it was refused
-abbrev pub filledFor : Outcome → List ℕ → List ℕ → Type 0
+abbrev pub filledFor : ReadOutcome → List ℕ → List ℕ → Type 0
 filledFor (whole b) numbers codes = (numbers ≡ b .numbers) × (codes ≡ b .codes)
 filledFor (bad n p) numbers codes = Unit
 
@@ -42,136 +25,20 @@ pub record Readable (s : List ℕ) (a : ℕ) (runs codes slots : List ℕ) : Typ
   pub codes-long : codesRoom ≤ length codes
   pub runs-zero : runs ≡ zeros runs
   pub codes-zero : codes ≡ zeros codes
-  pub index : Indexed s codes 0 slots
+  pub index : CodesIndexed s codes 0 slots
 
 -- with o the whole outcome: the loop stands at a, before line `line`
-pub record Reading (s : List ℕ) (o : Outcome) (roomR roomC a line stops runs : ℕ) (numbers codes slots : List ℕ) : Type 0 where
+pub record Reading (s : List ℕ) (o : ReadOutcome) (roomR roomC a line stops runs : ℕ) (numbers codes slots : List ℕ) : Type 0 where
   pub fuel : ℕ
   pub rest : o ≡ readFrom fuel s a (record { line = line; stops = stops; runs = runs; codes = codes; numbers = numbers })
   pub within : a ≤ length s
   pub enough : length s ≤ fuel + a
-  pub index : Indexed s codes stops slots
+  pub index : CodesIndexed s codes stops slots
   pub few : runs ≤ mostRuns
   pub lined : line ≡ stops + runs + 2
   pub runs-same : length numbers ≡ roomR
   pub codes-same : length codes ≡ roomC
 
-pub reading-none : {s : List ℕ} {a : ℕ} {runs codes slots : List ℕ} → Readable s a runs codes slots →
-    Reading s (linesOf s a (length runs) (length codes)) (length runs) (length codes) a 2 0 0 runs codes slots
-unfolding linesOf zeros
-reading-none {s} {a} {runs} {codes} r =
-    record {
-      fuel = length s;
-      rest = rw (← r .runs-zero, ← r .codes-zero);
-      within = r .within;
-      enough = omega arith;
-      index = r .index;
-      few = omega arith;
-      lined = refl;
-      runs-same = refl;
-      codes-same = refl;
-    }
-
--- one line, where the fuel lasts for the bytes that are left
-opened : (f : ℕ) (s : List ℕ) (a : ℕ) (b : Sofar) → a ≤ length s → length s ≤ f + a →
-    readFrom f s a b ≡
-    cond (leb (length s) (seek lf s a (length s))) (bad lineShape (b .line))
-    (next (readFrom (f - 1) s) s (seek lf s a (length s)) b (lineOf s (b .codes) (b .stops) (b .runs) a (seek lf s a (length s))))
-unfolding readFrom
-opened zero s a b h l = rw (seek-end lf s a (length s) (omega arith), le-leb (length s) a (omega arith))
-opened (suc f) s a b h l = let e : suc f - 1 ≡ f = omega arith in rw e
-
--- more than the number of bytes that are left makes no difference
-next-same : (go to : ℕ → Sofar → Outcome) (s : List ℕ) (e : ℕ) (b : Sofar) (l : Line) → ((c : Sofar) → go (e + 1) c ≡ to (e + 1) c) → next go s e b l ≡ next to s e b l
-next-same go to s e b (kind.Stop c) h = h (withStop b c)
-next-same go to s e b (kind.Run r) h = h (withRun b r)
-next-same go to s e b kind.End h = refl
-next-same go to s e b (kind.Bad n) h = refl
-
-pub any-fuel : (f g : ℕ) (s : List ℕ) (a : ℕ) (b : Sofar) → a ≤ length s → length s ≤ f + a → length s ≤ g + a → readFrom f s a b ≡ readFrom g s a b
-unfolding readFrom
-any-fuel zero g s a b h l m =
-    sym (opened g s a b h m ∙ (rw (seek-end lf s a (length s) (omega arith), le-leb (length s) a (omega arith))))
-any-fuel (suc f) g s a b h l m =
-    go (leb (length s) (seek lf s a (length s))) (leb-false (length s) (seek lf s a (length s)))
-    (λ lt c. any-fuel f (g - 1) s (seek lf s a (length s) + 1) c (omega arith) (omega (arith, seek-low lf s a (length s))) (omega (arith, seek-low lf s a (length s)))) ∙
-    sym (opened g s a b h m)
-  where
-    go : (t : Bool) → (t ≡ false → seek lf s a (length s) < length s) →
-        (seek lf s a (length s) < length s → (c : Sofar) → readFrom f s (seek lf s a (length s) + 1) c ≡ readFrom (g - 1) s (seek lf s a (length s) + 1) c) →
-        cond t (bad lineShape (b .line)) (next (readFrom f s) s (seek lf s a (length s)) b (lineOf s (b .codes) (b .stops) (b .runs) a (seek lf s a (length s)))) ≡
-        cond t (bad lineShape (b .line)) (next (readFrom (g - 1) s) s (seek lf s a (length s)) b (lineOf s (b .codes) (b .stops) (b .runs) a (seek lf s a (length s))))
-    go true lt rec = refl
-    go false lt rec =
-        next-same (readFrom f s) (readFrom (g - 1) s) s (seek lf s a (length s)) b (lineOf s (b .codes) (b .stops) (b .runs) a (seek lf s a (length s)))
-        (rec (lt refl))
-
-module _ {s : List ℕ} {o : Outcome} {roomR roomC a line stops runs : ℕ} {numbers codes slots : List ℕ}
-    (r : Reading s o roomR roomC a line stops runs numbers codes slots) (e : ℕ) (at : e ≡ seek lf s a (length s)) where
-  step : o ≡
-      cond (leb (length s) e) (bad lineShape line)
-      (next (readFrom (r .fuel - 1) s) s e (record { line = line; stops = stops; runs = runs; codes = codes; numbers = numbers }) (lineOf s codes stops runs a e))
-  step = rw at (r .rest ∙ opened (r .fuel) s a _ (r .within) (r .enough))
-
-  pub reading-unfinished : length s ≤ e → o ≡ bad lineShape line
-  reading-unfinished h = step ∙ rw (le-leb _ _ h)
-
-  module _ (h : e < length s) where
-    pub reading-bad : (n : ℕ) → lineOf s codes stops runs a e ≡ kind.Bad n → o ≡ bad n line
-    reading-bad n l = step ∙ rw (lt-leb _ _ h, l)
-
-    pub reading-after : lineOf s codes stops runs a e ≡ kind.End → e + 1 < length s → o ≡ bad lineShape (line + 1)
-    reading-after l g = step ∙ rw (lt-leb _ _ h, l, lt-ltb _ _ g)
-
-    pub reading-whole : lineOf s codes stops runs a e ≡ kind.End → length s ≤ e + 1 →
-        o ≡ whole (record { line = line; stops = stops; runs = runs; codes = codes; numbers = numbers })
-    reading-whole l g = step ∙ rw (lt-leb _ _ h, l, le-ltb _ _ g)
-
-    pub reading-stop : (c : Code) (codes′ slots′ : List ℕ) → lineOf s codes stops runs a e ≡ kind.Stop c →
-        codes′ ≡ putCode codes stops (c .start) (c .length) → Indexed s codes′ (stops + 1) slots′ →
-        Reading s o roomR roomC (e + 1) (line + 1) (stops + 1) runs numbers codes′ slots′
-    reading-stop c codes′ slots′ l p x =
-        record {
-          fuel = r .fuel - 1;
-          rest = rw p (step ∙ rw (lt-leb _ _ h, l));
-          within = omega arith;
-          enough = omega (arith, r .enough, r .within, at, seek-low lf s a (length s));
-          index = x;
-          few = r .few;
-          lined = omega (arith, r .lined);
-          runs-same = r .runs-same;
-          codes-same = rw p (simp length-set (r .codes-same));
-        }
-
-    pub reading-run : (k : Run) (numbers′ : List ℕ) → lineOf s codes stops runs a e ≡ kind.Run k → numbers′ ≡ putRun numbers runs k →
-        Reading s o roomR roomC (e + 1) (line + 1) stops (runs + 1) numbers′ codes slots
-    unfolding putRun
-    reading-run k numbers′ l p =
-        record {
-          fuel = r .fuel - 1;
-          rest = rw p (step ∙ rw (lt-leb _ _ h, l));
-          within = omega arith;
-          enough = omega (arith, r .enough, r .within, at, seek-low lf s a (length s));
-          index = r .index;
-          few = omega (arith, run-known s codes stops runs e a k (omega (arith, at, seek-low lf s a (length s))) l .few);
-          lined = omega (arith, r .lined);
-          runs-same = rw p (simp length-set (r .runs-same));
-          codes-same = r .codes-same;
-        }
-
--- what the loop left is what the rooms hold in the end, once a refusal's are zeroed
-module _ (o : Outcome) (numbers codes : List ℕ) where
-  pub filled-whole : (k : Counts) (n m : ℕ) → filledFor o numbers codes → Read k ≡ answerOf o → (numbers ≡ runsOf o n) × (codes ≡ codesOf o m)
-  filled-whole k n m = go o
-    where
-      go : (o : Outcome) → filledFor o numbers codes → Read k ≡ answerOf o → (numbers ≡ runsOf o n) × (codes ≡ codesOf o m)
-      go (whole b) f e = f
-      go (bad i p) f e = absurd (let z : _≡_ {A = ℕ} 0 1 = cc in omega arith)
-
-  pub filled-refused : (k : Refusal) → No k ≡ answerOf o → (zeros numbers ≡ runsOf o (length numbers)) × (zeros codes ≡ codesOf o (length codes))
-  unfolding zeros
-  filled-refused k = go o
-    where
-      go : (o : Outcome) → No k ≡ answerOf o → (zeros numbers ≡ runsOf o (length numbers)) × (zeros codes ≡ codesOf o (length codes))
-      go (whole b) e = absurd (let z : _≡_ {A = ℕ} 0 1 = cc in omega arith)
-      go (bad i p) e = (refl, refl)
+-- what was read so far is as good as what was read whole
+abbrev pub GoodSofar : List ℕ → ℕ → ℕ → Sofar → Type 0
+GoodSofar s roomR roomC b = GoodRead s roomR roomC (b .stops) (b .runs) (b .numbers) (b .codes)

@@ -53,7 +53,8 @@ fn read_lines(
 ) -> ReadAnswer
     requires { ⌜ Readable (now text) from (now runs) (now codes) (now slots) ⌝ }
     ensures { λ r. ⌜ r ≡ answerOf (linesOf (now (text .entry)) from (length (now (runs .entry))) (length (now (codes .entry)))) ⌝ }
-    ensures { λ r. ⌜ filledFor (linesOf (now (text .entry)) from (length (now (runs .entry))) (length (now (codes .entry)))) (now (runs .exit)) (now (codes .exit)) ⌝ }
+    ensures { λ r. ⌜ filledFor (linesOf (now (text .entry)) from (length (now (runs .entry))) (length (now (codes .entry))))
+        (now (runs .exit)) (now (codes .exit)) ⌝ }
 {
     let mut at = from;
     let mut line: u32 = 2;
@@ -102,7 +103,8 @@ fn read_lines(
 fn read_text(text: &[u8], runs: &mut [u32], codes: &mut [u32]) -> ReadAnswer
     requires { ⌜ (now runs ≡ zeros (now runs)) × (now codes ≡ zeros (now codes)) ⌝ }
     ensures { λ r. ⌜ r ≡ answerOf (readText (now (text .entry)) (length (now (runs .entry))) (length (now (codes .entry)))) ⌝ }
-    ensures { λ r. ⌜ filledFor (readText (now (text .entry)) (length (now (runs .entry))) (length (now (codes .entry)))) (now (runs .exit)) (now (codes .exit)) ⌝ }
+    ensures { λ r. ⌜ filledFor (readText (now (text .entry)) (length (now (runs .entry))) (length (now (codes .entry))))
+        (now (runs .exit)) (now (codes .exit)) ⌝ }
 {
     if runs.len() < Run::ROOM {
         return refuse(Refusal::ROOM_SHORT, 0);
@@ -125,8 +127,10 @@ fn read_text(text: &[u8], runs: &mut [u32], codes: &mut [u32]) -> ReadAnswer
 // What is not written is zero, and after a refusal both rooms are.
 pub fn read(text: &[u8], runs: &mut [u32], codes: &mut [u32]) -> ReadAnswer
     ensures { λ r. ⌜ r ≡ answerOf (readText (now (text .entry)) (length (now (runs .entry))) (length (now (codes .entry)))) ⌝ }
-    ensures { λ _. ⌜ now (runs .exit) ≡ runsOf (readText (now (text .entry)) (length (now (runs .entry))) (length (now (codes .entry)))) (length (now (runs .entry))) ⌝ }
-    ensures { λ _. ⌜ now (codes .exit) ≡ codesOf (readText (now (text .entry)) (length (now (runs .entry))) (length (now (codes .entry)))) (length (now (codes .entry))) ⌝ }
+    ensures { λ _. ⌜ now (runs .exit) ≡
+        runsOf (readText (now (text .entry)) (length (now (runs .entry))) (length (now (codes .entry)))) (length (now (runs .entry))) ⌝ }
+    ensures { λ _. ⌜ now (codes .exit) ≡
+        codesOf (readText (now (text .entry)) (length (now (runs .entry))) (length (now (codes .entry)))) (length (now (codes .entry))) ⌝ }
 {
     loops::zero_u32(runs);
     loops::zero_u32(codes);

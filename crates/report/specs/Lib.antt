@@ -1,5 +1,9 @@
 pub mod Texts
+pub mod TextLines
 pub mod Words
+pub mod WordsTable
 pub mod Lines
+pub mod TextLinesLaws
 pub mod WordsLaws
 pub mod Examples
+pub mod ExamplesLaws

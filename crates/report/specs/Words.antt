@@ -4,7 +4,8 @@ use Prim.Native.String.{String}
 use mathlib.Core.List.{List, [], _∷_, _++_}
 use mathlib.Core.Bool.{cond}
 use lib.Dec.{eqb, leb}
-use Rattle.kinds.specs.Refusals.{firstLine, lineShape, codeBad, codeRepeated, stopUnknown, ownStop, outOfRange, overLimit, noTables, tablesLength, labelBad, stopHigh, sameStop, minuteHigh, minutesCrossed, noJourney, roomShort, ridesMissing, unsupported, gap, stopsDiffer, labelsOver}
+use Rattle.kinds.specs.Refusals.{firstLine, lineShape, codeBad, codeRepeated, stopUnknown, ownStop, outOfRange, overLimit, noTables, tablesLength, labelBad}
+use Rattle.kinds.specs.Refusals.{stopHigh, sameStop, minuteHigh, minutesCrossed, noJourney, roomShort, ridesMissing, unsupported, gap, stopsDiffer, labelsOver}
 use Rattle.kinds.specs.declared.Refusal.{Refusal}
 use Rattle.words.specs.Bytes.{bytes}
 use Rattle.report.specs.Texts.{counted, saying}
@@ -59,8 +60,8 @@ mostWords = 80
 abbrev pub linePlace : ℕ → List ℕ
 linePlace p = cond (eqb p 0) [] (counted " at line" p ++ bytes " of the timetable")
 
-abbrev pub placeOf : Refusal → List ℕ
-placeOf r =
+abbrev pub placeWords : Refusal → List ℕ
+placeWords r =
     cond (leb (r .number) overLimit) (linePlace (r .place))
     (cond (eqb (r .number) labelBad) (counted " at label" (r .place))
     (cond (eqb (r .number) unsupported) (counted " at label" (r .place))
@@ -69,4 +70,4 @@ placeOf r =
 
 -- "refused 19 at label 1: the tables hold a label that the timetable does not support"
 unfoldable pub refusalLine : Refusal → List ℕ
-refusalLine r = saying (counted "refused" (r .number) ∷ placeOf r ∷ bytes ": " ∷ wordsOf (r .number) ∷ [])
+refusalLine r = saying (counted "refused" (r .number) ∷ placeWords r ∷ bytes ": " ∷ wordsOf (r .number) ∷ [])

@@ -5,24 +5,27 @@ use kinds::Refusal;
 use printed::put_lf;
 use printed::put_number;
 ghost use mathlib.Core.Path.{_≡_};
+ghost use mathlib.Core.Bool.{true};
 ghost use mathlib.Core.List.{_∷_, _++_};
 ghost use Prim.Native.Nat.{_+_, _≤_, _<_};
 ghost use lib.ListN.{length};
 ghost use Rattle.words.specs.Words.{space};
 ghost use Rattle.kinds.specs.Limits.{mostCode};
-ghost use Rattle.kinds.specs.Refusals.{overLimit, minutesCrossed, labelsOver};
 ghost use Rattle.printed.specs.Printed.{mostDigits, decimal, codeOf};
-ghost use Rattle.printed.specs.Wrote.{Wrote, CodeIn};
+ghost use Rattle.kinds.specs.Kinds.{CodeIn};
+ghost use Rattle.printed.specs.Wrote.{Wrote};
 ghost use Rattle.report.specs.Texts.{counted};
-ghost use Rattle.report.specs.Words.{wordsOf, mostWords, linePlace, placeOf, refusalLine};
-ghost use Rattle.report.specs.Lines.{acceptedLine, changeOf, ChangeIn, labelLine, setWords, pivotWords, entryLine, runLine, stopLine, writtenLine, moreLine, lineRoom};
+ghost use Rattle.report.specs.TextLines.{textLine, shortB, LineFrom};
+ghost use Rattle.report.specs.Words.{wordsOf, mostWords, linePlace, placeWords, refusalLine};
+ghost use Rattle.report.specs.Lines.{acceptedLine, changeOf, ChangeIn, timesWords, labelLine, setWords, pivotWords, entryLine};
+ghost use Rattle.report.specs.Lines.{minutesAndTrip, numberedRun, numberedStop, writtenLine, moreLine, reportRoom};
 
 // Room for any line.
 pub const LINE_ROOM: usize = 280;
 
 pub fn line_room() -> usize
     ensures { λ r. do ⌜ r ≡ (← ⟦LINE_ROOM⟧ .entry) ⌝ }
-    ensures { λ r. ⌜ r ≡ lineRoom ⌝ }
+    ensures { λ r. ⌜ r ≡ reportRoom ⌝ }
 {
     LINE_ROOM
 }
@@ -71,152 +74,66 @@ fn put_named(out: &mut [u8], at: usize, s: &[u8], text: &[u8], code: Code) -> us
 
 // ---- Refusals.
 
-// The words of a timetable's refusals, 1 to 8.
-fn put_text_words(out: &mut [u8], at: usize, number: u32) -> usize
-    requires { ⌜ at + mostWords ≤ length (now out) ⌝ }
-    requires { ⌜ (1 ≤ number) × (number ≤ overLimit) ⌝ }
-    ensures { λ r. ⌜ Wrote (now (out .entry)) at (wordsOf number) (now (out .exit)) r ⌝ }
-    ensures { λ r. ⌜ r ≤ at + mostWords ⌝ }
+// Where line n of s begins, counted from 0; the end of s where it has no such line.
+fn line_from(s: &[u8], n: u32) -> usize
+    ensures { λ r. ⌜ LineFrom (now (s .entry)) n r ⌝ }
 {
-    if number == Refusal::FIRST_LINE {
-        return put_text(out, at, b"the first line is not \"timetable 1\"");
+    let mut from = 0;
+    let mut k = 0;
+    while k < n {
+        let end = words::seek(s, b'\n', from, s.len());
+        if end == s.len() {
+            return end;
+        }
+        from = end + 1;
+        k += 1;
     }
-    if number == Refusal::LINE_SHAPE {
-        return put_text(
-            out,
-            at,
-            b"the line is missing or unfinished, or has no form that may stand here",
-        );
-    }
-    if number == Refusal::CODE_BAD {
-        return put_text(
-            out,
-            at,
-            b"the stop code is empty, too long, or holds a character that no code has",
-        );
-    }
-    if number == Refusal::CODE_REPEATED {
-        return put_text(out, at, b"an earlier stop has this code");
-    }
-    if number == Refusal::STOP_UNKNOWN {
-        return put_text(out, at, b"no stop has this code");
-    }
-    if number == Refusal::OWN_STOP {
-        return put_text(out, at, b"the run ends at the stop where it starts");
-    }
-    if number == Refusal::OUT_OF_RANGE {
-        return put_text(
-            out,
-            at,
-            b"a number is out of range, or the run does not arrive after it leaves",
-        );
-    }
-    put_text(
-        out,
-        at,
-        b"there are more stops or runs, or a longer text, than the limits allow",
-    )
+    from
 }
 
-// Those of a tables file and of an ask, 9 to 15.
-fn put_file_words(out: &mut [u8], at: usize, number: u32) -> usize
+// Line n of s, without its end; nothing where s has no such line. The lines of s are short.
+fn put_line(out: &mut [u8], at: usize, s: &[u8], n: u32) -> usize
     requires { ⌜ at + mostWords ≤ length (now out) ⌝ }
-    requires { ⌜ (overLimit < number) × (number ≤ minutesCrossed) ⌝ }
-    ensures { λ r. ⌜ Wrote (now (out .entry)) at (wordsOf number) (now (out .exit)) r ⌝ }
+    requires { ⌜ shortB mostWords mostWords (now s) ≡ true ⌝ }
+    ensures { λ r. ⌜ Wrote (now (out .entry)) at (textLine (now (s .entry)) n) (now (out .exit)) r ⌝ }
     ensures { λ r. ⌜ r ≤ at + mostWords ⌝ }
 {
-    if number == Refusal::NO_TABLES {
-        return put_text(
-            out,
-            at,
-            b"the file holds no tables: it is too short, begins otherwise, or has no stops",
-        );
-    }
-    if number == Refusal::TABLES_LENGTH {
-        return put_text(
-            out,
-            at,
-            b"the tables are cut short or too long, or have more labels than the limit",
-        );
-    }
-    if number == Refusal::LABEL_BAD {
-        return put_text(
-            out,
-            at,
-            b"the tables hold a label that is not good, or not in its order",
-        );
-    }
-    if number == Refusal::STOP_HIGH {
-        return put_text(out, at, b"no stop has this number");
-    }
-    if number == Refusal::SAME_STOP {
-        return put_text(out, at, b"both stops are the same");
-    }
-    if number == Refusal::MINUTE_HIGH {
-        return put_text(out, at, b"the minute is later than the last one of a day");
-    }
-    put_text(out, at, b"the first minute is later than the second")
+    let from = line_from(s, n);
+    let end = words::seek(s, b'\n', from, s.len());
+    printed::put_part(out, at, s, from, end - from)
 }
 
-// Those of an ask's answer, of the check and of the build, 16 to 22.
-fn put_answer_words(out: &mut [u8], at: usize, number: u32) -> usize
-    requires { ⌜ at + mostWords ≤ length (now out) ⌝ }
-    requires { ⌜ (minutesCrossed < number) × (number ≤ labelsOver) ⌝ }
-    ensures { λ r. ⌜ Wrote (now (out .entry)) at (wordsOf number) (now (out .exit)) r ⌝ }
-    ensures { λ r. ⌜ r ≤ at + mostWords ⌝ }
-{
-    if number == Refusal::NO_JOURNEY {
-        return put_text(out, at, b"there is no journey");
-    }
-    if number == Refusal::ROOM_SHORT {
-        return put_text(out, at, b"the lent room is too short");
-    }
-    if number == Refusal::RIDES_MISSING {
-        return put_text(out, at, b"a run or a label of the journey is missing");
-    }
-    if number == Refusal::UNSUPPORTED {
-        return put_text(
-            out,
-            at,
-            b"the tables hold a label that the timetable does not support",
-        );
-    }
-    if number == Refusal::GAP {
-        return put_text(
-            out,
-            at,
-            b"the tables miss a journey that begins with this run and ends at this stop",
-        );
-    }
-    if number == Refusal::STOPS_DIFFER {
-        return put_text(
-            out,
-            at,
-            b"the tables are for another number of stops than the timetable's",
-        );
-    }
-    put_text(out, at, b"the timetable needs more labels than the limit")
-}
-
-// The words of any refusal; another number has none.
+// The words of any refusal: line by line in the order of their numbers, after an empty line for 0, which is no refusal's. Another number has none.
 fn put_words(out: &mut [u8], at: usize, number: u32) -> usize
     requires { ⌜ at + mostWords ≤ length (now out) ⌝ }
     ensures { λ r. ⌜ Wrote (now (out .entry)) at (wordsOf number) (now (out .exit)) r ⌝ }
     ensures { λ r. ⌜ r ≤ at + mostWords ⌝ }
 {
-    if number == 0 {
-        return at;
-    }
-    if number <= Refusal::OVER_LIMIT {
-        return put_text_words(out, at, number);
-    }
-    if number <= Refusal::MINUTES_CROSSED {
-        return put_file_words(out, at, number);
-    }
-    if number <= Refusal::LABELS_OVER {
-        return put_answer_words(out, at, number);
-    }
-    at
+    let texts = b"\n\
+        the first line is not \"timetable 1\"\n\
+        the line is missing or unfinished, or has no form that may stand here\n\
+        the stop code is empty, too long, or holds a character that no code has\n\
+        an earlier stop has this code\n\
+        no stop has this code\n\
+        the run ends at the stop where it starts\n\
+        a number is out of range, or the run does not arrive after it leaves\n\
+        there are more stops or runs, or a longer text, than the limits allow\n\
+        the file holds no tables: it is too short, begins otherwise, or has no stops\n\
+        the tables are cut short or too long, or have more labels than the limit\n\
+        the tables hold a label that is not good, or not in its order\n\
+        no stop has this number\n\
+        both stops are the same\n\
+        the minute is later than the last one of a day\n\
+        the first minute is later than the second\n\
+        there is no journey\n\
+        the lent room is too short\n\
+        a run or a label of the journey is missing\n\
+        the tables hold a label that the timetable does not support\n\
+        the tables miss a journey that begins with this run and ends at this stop\n\
+        the tables are for another number of stops than the timetable's\n\
+        the timetable needs more labels than the limit\n\
+        ";
+    put_line(out, at, texts, number)
 }
 
 // The line of the timetable, if one is named.
@@ -235,7 +152,7 @@ fn put_line_place(out: &mut [u8], at: usize, place: u32) -> usize
 // The place of a refusal.
 fn put_place(out: &mut [u8], at: usize, r: Refusal) -> usize
     requires { ⌜ at + 40 ≤ length (now out) ⌝ }
-    ensures { λ n. ⌜ Wrote (now (out .entry)) at (placeOf r) (now (out .exit)) n ⌝ }
+    ensures { λ n. ⌜ Wrote (now (out .entry)) at (placeWords r) (now (out .exit)) n ⌝ }
     ensures { λ n. ⌜ n ≤ at + 40 ⌝ }
 {
     if r.number <= Refusal::OVER_LIMIT {
@@ -256,9 +173,9 @@ fn put_place(out: &mut [u8], at: usize, r: Refusal) -> usize
 
 // "refused NUMBER at PLACE: WORDS"
 pub fn refusal_line(out: &mut [u8], at: usize, r: Refusal) -> usize
-    requires { ⌜ at + lineRoom ≤ length (now out) ⌝ }
+    requires { ⌜ at + reportRoom ≤ length (now out) ⌝ }
     ensures { λ n. ⌜ Wrote (now (out .entry)) at (refusalLine r) (now (out .exit)) n ⌝ }
-    ensures { λ n. ⌜ n ≤ at + lineRoom ⌝ }
+    ensures { λ n. ⌜ n ≤ at + reportRoom ⌝ }
 {
     let a = put_counted(out, at, b"refused", r.number);
     let b = put_place(out, a, r);
@@ -271,9 +188,9 @@ pub fn refusal_line(out: &mut [u8], at: usize, r: Refusal) -> usize
 
 // "accepted"
 pub fn accepted_line(out: &mut [u8], at: usize) -> usize
-    requires { ⌜ at + lineRoom ≤ length (now out) ⌝ }
+    requires { ⌜ at + reportRoom ≤ length (now out) ⌝ }
     ensures { λ r. ⌜ Wrote (now (out .entry)) at acceptedLine (now (out .exit)) r ⌝ }
-    ensures { λ r. ⌜ r ≤ at + lineRoom ⌝ }
+    ensures { λ r. ⌜ r ≤ at + reportRoom ⌝ }
 {
     let a = put_text(out, at, b"accepted");
     put_lf(out, a)
@@ -291,6 +208,16 @@ fn put_change(out: &mut [u8], at: usize, text: &[u8], change: Change) -> usize
     }
 }
 
+// When it leaves and when it arrives.
+fn put_times(out: &mut [u8], at: usize, dep: u32, arr: u32) -> usize
+    requires { ⌜ at + 40 ≤ length (now out) ⌝ }
+    ensures { λ r. ⌜ Wrote (now (out .entry)) at (timesWords dep arr) (now (out .exit)) r ⌝ }
+    ensures { λ r. ⌜ r ≤ at + 40 ⌝ }
+{
+    let a = put_counted(out, at, b", leaves", dep);
+    put_counted(out, a, b", arrives", arr)
+}
+
 // "label K: FROM to TO, leaves DEP, arrives ARR, change at STOP"
 pub fn label_line(
     out: &mut [u8],
@@ -303,18 +230,17 @@ pub fn label_line(
     arr: u32,
     change: Change,
 ) -> usize
-    requires { ⌜ at + lineRoom ≤ length (now out) ⌝ }
+    requires { ⌜ at + reportRoom ≤ length (now out) ⌝ }
     requires { ⌜ CodeIn (now text) from × CodeIn (now text) to × ChangeIn (now text) change ⌝ }
     ensures { λ r. ⌜ Wrote (now (out .entry)) at (labelLine (now (text .entry)) k from to dep arr change) (now (out .exit)) r ⌝ }
-    ensures { λ r. ⌜ r ≤ at + lineRoom ⌝ }
+    ensures { λ r. ⌜ r ≤ at + reportRoom ⌝ }
 {
     let a = put_counted(out, at, b"label", k);
     let b = put_named(out, a, b":", text, from);
     let c = put_named(out, b, b" to", text, to);
-    let d = put_counted(out, c, b", leaves", dep);
-    let e = put_counted(out, d, b", arrives", arr);
-    let f = put_change(out, e, text, change);
-    put_lf(out, f)
+    let d = put_times(out, c, dep, arr);
+    let e = put_change(out, d, text, change);
+    put_lf(out, e)
 }
 
 // Whose label it is.
@@ -352,17 +278,27 @@ pub fn entry_line(
     arr: u32,
     pivot: Pivot,
 ) -> usize
-    requires { ⌜ at + lineRoom ≤ length (now out) ⌝ }
+    requires { ⌜ at + reportRoom ≤ length (now out) ⌝ }
     ensures { λ r. ⌜ Wrote (now (out .entry)) at (entryLine k outgoing owner hub dep arr pivot) (now (out .exit)) r ⌝ }
-    ensures { λ r. ⌜ r ≤ at + lineRoom ⌝ }
+    ensures { λ r. ⌜ r ≤ at + reportRoom ⌝ }
 {
     let a = put_counted(out, at, b"label", k);
     let b = put_set(out, a, outgoing, owner);
     let c = put_counted(out, b, b", hub", hub);
-    let d = put_counted(out, c, b", leaves", dep);
-    let e = put_counted(out, d, b", arrives", arr);
-    let f = put_pivot(out, e, pivot);
-    put_lf(out, f)
+    let d = put_times(out, c, dep, arr);
+    let e = put_pivot(out, d, pivot);
+    put_lf(out, e)
+}
+
+// A run's two minutes and its trip.
+fn put_run_numbers(out: &mut [u8], at: usize, dep: u32, arr: u32, trip: u32) -> usize
+    requires { ⌜ at + 33 ≤ length (now out) ⌝ }
+    ensures { λ r. ⌜ Wrote (now (out .entry)) at (minutesAndTrip dep arr trip) (now (out .exit)) r ⌝ }
+    ensures { λ r. ⌜ r ≤ at + 33 ⌝ }
+{
+    let a = put_number(out, at, dep);
+    let b = put_number(out, a, arr);
+    put_number(out, b, trip)
 }
 
 // "run I: FROM TO DEP ARR TRIP"
@@ -377,26 +313,24 @@ pub fn run_line(
     arr: u32,
     trip: u32,
 ) -> usize
-    requires { ⌜ at + lineRoom ≤ length (now out) ⌝ }
+    requires { ⌜ at + reportRoom ≤ length (now out) ⌝ }
     requires { ⌜ CodeIn (now text) from × CodeIn (now text) to ⌝ }
-    ensures { λ r. ⌜ Wrote (now (out .entry)) at (runLine (now (text .entry)) i from to dep arr trip) (now (out .exit)) r ⌝ }
-    ensures { λ r. ⌜ r ≤ at + lineRoom ⌝ }
+    ensures { λ r. ⌜ Wrote (now (out .entry)) at (numberedRun (now (text .entry)) i from to dep arr trip) (now (out .exit)) r ⌝ }
+    ensures { λ r. ⌜ r ≤ at + reportRoom ⌝ }
 {
     let a = put_counted(out, at, b"run", i);
     let b = put_named(out, a, b":", text, from);
     let c = printed::put_code(out, b, text, to);
-    let d = put_number(out, c, dep);
-    let e = put_number(out, d, arr);
-    let f = put_number(out, e, trip);
-    put_lf(out, f)
+    let d = put_run_numbers(out, c, dep, arr, trip);
+    put_lf(out, d)
 }
 
 // "stop J: CODE"
 pub fn stop_line(out: &mut [u8], at: usize, text: &[u8], j: u32, code: Code) -> usize
-    requires { ⌜ at + lineRoom ≤ length (now out) ⌝ }
+    requires { ⌜ at + reportRoom ≤ length (now out) ⌝ }
     requires { ⌜ CodeIn (now text) code ⌝ }
-    ensures { λ r. ⌜ Wrote (now (out .entry)) at (stopLine (now (text .entry)) j code) (now (out .exit)) r ⌝ }
-    ensures { λ r. ⌜ r ≤ at + lineRoom ⌝ }
+    ensures { λ r. ⌜ Wrote (now (out .entry)) at (numberedStop (now (text .entry)) j code) (now (out .exit)) r ⌝ }
+    ensures { λ r. ⌜ r ≤ at + reportRoom ⌝ }
 {
     let a = put_counted(out, at, b"stop", j);
     let b = put_named(out, a, b":", text, code);
@@ -412,9 +346,9 @@ pub fn written_line(
     labels: u32,
     long: u32,
 ) -> usize
-    requires { ⌜ at + lineRoom ≤ length (now out) ⌝ }
+    requires { ⌜ at + reportRoom ≤ length (now out) ⌝ }
     ensures { λ r. ⌜ Wrote (now (out .entry)) at (writtenLine stops runs labels long) (now (out .exit)) r ⌝ }
-    ensures { λ r. ⌜ r ≤ at + lineRoom ⌝ }
+    ensures { λ r. ⌜ r ≤ at + reportRoom ⌝ }
 {
     let a = put_counted(out, at, b"written:", stops);
     let b = put_counted(out, a, b" stops,", runs);
@@ -426,9 +360,9 @@ pub fn written_line(
 
 // "NAME has more than MOST bytes"
 pub fn more_line(out: &mut [u8], at: usize, name: &[u8], most: u32) -> usize
-    requires { ⌜ at + length (now name) + lineRoom ≤ length (now out) ⌝ }
+    requires { ⌜ at + length (now name) + reportRoom ≤ length (now out) ⌝ }
     ensures { λ r. ⌜ Wrote (now (out .entry)) at (moreLine (now (name .entry)) most) (now (out .exit)) r ⌝ }
-    ensures { λ r. ⌜ r ≤ at + length (now (name .entry)) + lineRoom ⌝ }
+    ensures { λ r. ⌜ r ≤ at + length (now (name .entry)) + reportRoom ⌝ }
 {
     let a = put_text(out, at, name);
     let b = put_counted(out, a, b" has more than", most);

@@ -1,7 +1,7 @@
 -- Over tables that the check accepts, an ask with rides speaks of the timetable's journeys; over any good tables the rides are a journey with
 -- the answered pair, and a list of 2,879 numbers is never too short.
 use Prim.Native.Nat.{ℕ, _-_, _≤_}
-use mathlib.Core.Path.{_≡_, sym, ap, _∙_}
+use mathlib.Core.Path.{_≡_, refl, sym, ap, _∙_}
 use mathlib.Core.List.{List, _++_}
 use mathlib.Core.Logic.{_≢_}
 use native.Mathlib.Omega.{arith}
@@ -17,9 +17,11 @@ use Rattle.journeys.specs.AcceptedLaws.{accepted-best, accepted-nothing}
 use Rattle.journeys.specs.CriteriaLaws.{best-one, best-not-nothing}
 use Rattle.journeys.specs.RidesLaws.{chosen-journey, chosen-all, rides-few}
 use Rattle.tables.specs.File.{tablesOf}
-use Rattle.tables.specs.TablesLaws.{tables-stops, good-tables}
-use Rattle.timetable.specs.Numbers.{serviceOf}
-use Rattle.timetable.specs.NumbersLaws.{good-service, service-stops}
+use Rattle.tables.specs.TablesLaws.{good-stops, good-tables}
+use Rattle.timetable.specs.declared.Given.{Given}
+use Rattle.timetable.specs.Slots.{listed, serviceOf}
+use Rattle.timetable.specs.SlotsLaws.{good-service}
+use Rattle.both.specs.BothLaws.{both-stops}
 use Rattle.asks.specs.declared.Wanted.{Wanted}
 use Rattle.asks.specs.declared.Asked.{Asked}
 use Rattle.asks.specs.declared.AskRead.the-variants as ask
@@ -44,7 +46,8 @@ module _ {S : Service} {T : Tables} (q : Asked) where
   never-missing D G sup (missing e d a B n) f = let c = chosen-all D G sup (q .from) (q .to) d a (B .has) in n (c .0) (c .1)
   never-missing D G sup (short e d a B l C lt) f = omega (arith, ap (λ (x : Refusal). x .number) (sym e ∙ f))
 
-module _ {S : Service} (D : GoodService S) {T : Tables} (G : GoodTables T) (same : T .stops ≡ S .stops) (ok : Accepted S T) (q : Asked) (apart : q .from ≢ q .to) where
+module _ {S : Service} (D : GoodService S) {T : Tables} (G : GoodTables T) (same : T .stops ≡ S .stops) (ok : Accepted S T) (q : Asked)
+    (apart : q .from ≢ q .to) where
   truly-listed : {before after : List ℕ} {j : Listed} → ListedAs S T q before after j → TrulyListed S T q before after j
   truly-listed {j = j} L = record {
     listed = record {
@@ -68,12 +71,13 @@ module _ {S : Service} (D : GoodService S) {T : Tables} (G : GoodTables T) (same
   truly-lists before after (No r) L = (truly-refused (L .0), L .1)
 
 -- the same from the bytes and the numbers, for an ask that is not refused
-pub accepted-lists : (b : List ℕ) (stops count : ℕ) (runs : List ℕ) (lent from to : ℕ) (w : Wanted) (q : Asked) (before after : List ℕ) (x : RidesAnswer) →
-    Accepted (serviceOf stops count runs) (tablesOf b) → ridesAsked b stops count runs lent from to w ≡ ask.Good q →
-    Lists (serviceOf stops count runs) (tablesOf b) (ask.Good q) before after x → TrulyLists (serviceOf stops count runs) (tablesOf b) q before after x
-accepted-lists b stops count runs lent from to w q before after x ok e L =
-    let A = asked-good b stops count runs lent from to w q e in
-    truly-lists (good-service (A .numbers)) (good-tables (A .file)) (tables-stops b ∙ A .file .room .contents .stops ∙ sym (service-stops stops count runs)) ok q (A .good .apart) before after x L
+pub accepted-lists : (b : List ℕ) (given : Given) (runs : List ℕ) (lent from to : ℕ) (w : Wanted) (q : Asked) (before after : List ℕ) (x : RidesAnswer) →
+    Accepted (serviceOf given runs) (tablesOf b) → ridesAsked b given runs lent from to w ≡ ask.Good q →
+    Lists (serviceOf given runs) (tablesOf b) (ask.Good q) before after x → TrulyLists (serviceOf given runs) (tablesOf b) q before after x
+accepted-lists b given runs lent from to w q before after x ok e L =
+    let A = asked-good b given runs lent from to w q e _ refl in
+    let B = A .both in
+    truly-lists (good-service (B .numbers)) (good-tables (B .file)) (good-stops (B .file) ∙ sym (both-stops B)) ok q (A .good .apart) before after x L
 
 -- a list of 2,879 numbers is long enough for every journey: then 17 is not given
 pub long-list : {S : Service} → GoodService S → (T : Tables) (q : Asked) (before after : List ℕ) (x : RidesAnswer) → lastMinute ≤ length before →
@@ -84,17 +88,18 @@ long-list D T q before after (No r) h (truly.short e d a B l C lt, z) = absurd (
 
 -- no second answer and no second list are the timetable's
 module _ (S : Service) {T : Tables} (G : GoodTables T) (q : Asked) where
-  listed-one : (before x y : List ℕ) (j k : Listed) → TrulyListed S T q before x j → TrulyListed S T q before y k → (j ≡ k) × (x ≡ y)
-  listed-one before x y j k f g =
+  truly-listed-one : (before x y : List ℕ) (j k : Listed) → TrulyListed S T q before x j → TrulyListed S T q before y k → (j ≡ k) × (x ≡ y)
+  truly-listed-one before x y j k f g =
       let s = best-one (q .criterion) (f .listed .best) (g .listed .best) in
       let e = one-list G q (Journey S (q .from) (q .to)) (f .listed .best) (g .listed .best) (f .chosen) (g .chosen) in (
         same-listed (s .0) (s .1) (f .listed .count ∙ ap length e ∙ sym (g .listed .count)),
-        f .listed .holds ∙ ap (λ l. l ++ replicate (length before - length l) 0) e ∙ sym (g .listed .holds),
+        f .listed .holds ∙ ap (λ l. listed l ++ replicate (length before - length l) 0) e ∙ sym (g .listed .holds),
       )
 
   not-both : (before after : List ℕ) (j : Listed) (r : Refusal) → TrulyListed S T q before after j → ¬ (TrulyRefused S T q (length before) r)
   not-both before after j r f (truly.no-journey e n) = best-not-nothing (q .criterion) (f .listed .best) n
-  not-both before after j r f (truly.short e d a B l C lt) = omega (arith, f .listed .fits, ap length (one-list G q (Journey S (q .from) (q .to)) (f .listed .best) B (f .chosen) C))
+  not-both before after j r f (truly.short e d a B l C lt) =
+      omega (arith, f .listed .fits, ap length (one-list G q (Journey S (q .from) (q .to)) (f .listed .best) B (f .chosen) C))
 
   refused-one : (room : ℕ) (r s : Refusal) → TrulyRefused S T q room r → TrulyRefused S T q room s → r ≡ s
   refused-one room r s (truly.no-journey e n) (truly.no-journey f m) = e ∙ sym f
@@ -103,7 +108,7 @@ module _ (S : Service) {T : Tables} (G : GoodTables T) (q : Asked) where
   refused-one room r s (truly.short e d a B l C lt) (truly.short f d′ a′ B′ m C′ lt′) = e ∙ sym f
 
   pub truly-one : (before m n : List ℕ) (x y : RidesAnswer) → TrulyLists S T q before m x → TrulyLists S T q before n y → (x ≡ y) × (m ≡ n)
-  truly-one before m n (At j) (At k) f g = let s = listed-one before m n j k f g in (ap At (s .0), s .1)
+  truly-one before m n (At j) (At k) f g = let s = truly-listed-one before m n j k f g in (ap At (s .0), s .1)
   truly-one before m n (At j) (No r) f g = absurd (not-both before m j r f (g .0))
   truly-one before m n (No r) (At k) f g = absurd (not-both before n k r g (f .0))
   truly-one before m n (No r) (No s) f g = (ap No (refused-one (length before) r s (f .0) (g .0)), f .1 ∙ sym (g .1))

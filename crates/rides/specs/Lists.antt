@@ -11,31 +11,33 @@ use Rattle.journeys.specs.Criteria.{Best, Nothing}
 use Rattle.journeys.specs.Tables.{Tables, Sketch}
 use Rattle.journeys.specs.Rides.{Chosen}
 use Rattle.tables.specs.Judged.{judgedTables}
+use Rattle.timetable.specs.declared.Given.{Given}
 use Rattle.timetable.specs.Numbers.{judgedOf}
+use Rattle.timetable.specs.Slots.{listed}
 use Rattle.asks.specs.declared.Wanted.{Wanted}
 use Rattle.asks.specs.declared.Asked.{Asked}
 use Rattle.asks.specs.declared.AskRead.{AskRead}
 use Rattle.asks.specs.declared.AskRead.the-variants as ask
 use Rattle.asks.specs.Asks.{ifTables, askRead}
-use Rattle.ground.specs.Ground.{groundRoom, judgedBoth}
+use Rattle.both.specs.Both.{workRoom, judgedBoth}
 use Rattle.rides.specs.declared.Listed.{Listed}
 use Rattle.rides.specs.declared.RidesAnswer.{RidesAnswer}
 use Rattle.rides.specs.declared.RidesAnswer.the-variants.{At, No}
 
 -- "With rides: after 11 those of the timetable numbers and 21", then the ask's; the working room's 17 "stands with the timetable's 17"
-unfoldable pub ridesAsked : List ℕ → ℕ → ℕ → List ℕ → ℕ → ℕ → ℕ → Wanted → AskRead
-ridesAsked b stops count runs lent from to w =
-    ifTables (judgedBoth (judgedTables b) (judgedOf stops count runs lent groundRoom) stops) (λ n. askRead n from to w)
+unfoldable pub ridesAsked : List ℕ → Given → List ℕ → ℕ → ℕ → ℕ → Wanted → AskRead
+ridesAsked b given runs lent from to w =
+    ifTables (judgedBoth (judgedTables b) (judgedOf given runs lent workRoom) (given .stops)) (λ n. askRead n from to w)
 
--- "The answer over the tables is the best sketch"; its rides are listed, "it is the number of rides listed", and "After success, room beyond
--- what was written is zero"
+-- "The answer over the tables is the best sketch"; its rides, slot by slot, are listed, each "as its run number"; "it is the number of rides
+-- listed", and "After success, room beyond what was written is zero"
 pub record ListedAs (S : Service) (T : Tables) (q : Asked) (before after : List ℕ) (j : Listed) : Type 0 where
   pub best : Best (Sketch T (q .from) (q .to)) (q .criterion) (j .dep) (j .arr)
   pub rides : List ℕ
   pub chosen : Chosen S T (q .from) (q .to) (j .dep) (j .arr) rides
   pub count : j .rides ≡ length rides
   pub fits : length rides ≤ length before
-  pub holds : after ≡ rides ++ replicate (length before - length rides) 0
+  pub holds : after ≡ listed rides ++ replicate (length before - length rides) 0
 
 -- "after 16 then 18, then 17": no journey; the best pair has no rides; its rides are more than the list has room for
 pub data RefusedAs (S : Service) (T : Tables) (q : Asked) (room : ℕ) (r : Refusal) : Type 0 where

@@ -10,7 +10,8 @@ use Rattle.journeys.specs.Service.{Service, GoodService}
 use Rattle.journeys.specs.Journey.{Journey, Within}
 use Rattle.journeys.specs.Criteria.{Best, Nothing}
 use Rattle.journeys.specs.JourneyLaws.{journey-last}
-use Rattle.journeys.specs.EarliestLaws.{Earliest, earliest}
+use Rattle.journeys.specs.EarliestLaws.{earliest}
+use Rattle.journeys.specs.Paths.{Earliest}
 
 module _ {S : Service} (G : GoodService S) {u t far : ℕ} (late : lastMinute < far) {E : ℕ → ℕ} (R : Earliest S u t far E) {v : ℕ} (apart : v ≢ u) where
   pub early-arrives : {d a : ℕ} → Best (Journey S u v) (Early t) d a → a ≡ E v

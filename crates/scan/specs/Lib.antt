@@ -3,7 +3,6 @@ pub mod EventLaws
 pub mod Scan
 pub mod Scanned
 pub mod Closed
-pub mod FillLaws
 pub mod Ordered
 pub mod ShuffledLaws
 pub mod OrderedLaws

@@ -4,7 +4,7 @@ use mathlib.Core.Bool.{cond}
 use lib.Dec.{eqb, ltb}
 use Rattle.loops.specs.Fold.{foldTo}
 use Rattle.kinds.specs.Limits.{noPivot, unreached}
-use Rattle.journeys.specs.Service.{Ride}
+use Rattle.journeys.specs.declared.Ride.{Ride}
 use Rattle.scan.specs.Events.{slotOf}
 use Rattle.scan.specs.declared.Cell.{Cell}
 

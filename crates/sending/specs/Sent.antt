@@ -5,8 +5,8 @@ use mathlib.Core.Path.{_≡_}
 use mathlib.Core.List.{List}
 use lib.ListN.{length}
 use Rattle.handing.specs.declared.Failure.{Failure}
-use Rattle.output.specs.declared.Stage.{Stage}
-use Rattle.output.specs.Output.{Prints}
+use Rattle.journey_lines.specs.declared.Stage.{Stage}
+use Rattle.journey_lines.specs.Output.{Prints}
 use Rattle.sending.specs.declared.Sent.{Sent}
 use Rattle.sending.specs.declared.Sent.the-variants.{All, Cut}
 

@@ -1,14 +1,14 @@
-// The lines that a program prints, handed on to standard output one after the other. Which lines they are is fixed in the crate `output`; that they were
+// The lines that a program prints, handed on to standard output one after the other. Which lines they are is fixed in the crate `journey_lines`; that they were
 // written, or that a write failed, is told by the values of the crate `handing`, which cannot be made otherwise.
 use handing::Failure;
 use handing::Handed;
 use handing::Written;
-use output::Stage;
-use output::Step;
+use journey_lines::Stage;
+use journey_lines::Step;
 ghost use Prim.Native.Nat.{_≤_};
 ghost use lib.ListN.{length};
-ghost use Rattle.printed.specs.Printed.{lineRoom};
-ghost use Rattle.output.specs.Steps.{Stands};
+ghost use Rattle.printed.specs.Printed.{longestLine};
+ghost use Rattle.journey_lines.specs.Steps.{Stands};
 ghost use Rattle.sending.specs.Sent.{SentFrom};
 
 // All lines were written; or a write failed, and nothing was written after it.
@@ -27,14 +27,14 @@ pub fn print(
     list: &mut [u32],
     out: &mut [u8],
 ) -> Sent
-    requires { ⌜ lineRoom ≤ length (now out) ⌝ }
+    requires { ⌜ longestLine ≤ length (now out) ⌝ }
     requires { ⌜ Stands (now input) (now runs) (now codes) (now tables) (now list) first ⌝ }
     ensures { λ r. ⌜ SentFrom (now (input .entry)) (now (runs .entry)) (now (codes .entry)) (now (tables .entry)) (now (list .entry)) first r ⌝ }
 {
     let mut stage = first;
     let mut written = Written::none();
     loop {
-        let step = output::next(input, runs, codes, tables, stage, list, out);
+        let step = journey_lines::next(input, runs, codes, tables, stage, list, out);
         match step {
             Step::Nothing => {
                 return Sent::All(written);

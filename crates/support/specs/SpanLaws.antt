@@ -1,12 +1,12 @@
 -- Laws of support: the label that a set's number and a label read say, and what the look-ups tell of it.
-use Prim.Native.Nat.{ℕ, _+_, _*_, _%_, _≤_, _<_}
-use mathlib.Core.Path.{_≡_, refl, ap, _∙_}
+use Prim.Native.Nat.{ℕ, _*_, _%_, _≤_, _<_}
+use mathlib.Core.Path.{_≡_, ap, _∙_}
 use mathlib.Core.List.{List}
 use mathlib.Core.Logic.{_⊎_, inl, inr}
 use mathlib.Core.Option.{Option}
 use mathlib.Core.Bool.{Bool, true, false}
 use native.Mathlib.Omega.{arith}
-use native.Mathlib.Decide.{decLt, ℕ-discrete}
+use native.Mathlib.Decide.{ℕ-discrete}
 use borrow.Author.Tests.{eq-eqb, ne-eqb}
 use Rattle.loops.specs.Tells.{Tells}
 use Rattle.loops.specs.TellsLaws.{tells-yes, tells-no, tells-as}
@@ -16,49 +16,42 @@ use Rattle.kinds.specs.declared.Label.{Label}
 use Rattle.journeys.specs.Service.{Service}
 use Rattle.journeys.specs.Tables.{Side, outs, ins, Tables, Entry, of-out, of-in}
 use Rattle.journeys.specs.Check.{Halves, SupportedAt}
-use Rattle.journeys.specs.SketchLaws.{entry-at}
 use Rattle.tables.specs.File.{startOf, endOf, setOf, ownerOf, labelAt, pivotOf, tablesOf}
-use Rattle.tables.specs.FileLaws.{start-more, start-rises}
+use Rattle.tables.specs.FileLaws.{set-only}
 use Rattle.tables.specs.Good.{GoodFile}
-use Rattle.tables.specs.TablesLaws.{tables-stops, tables-start, tables-end, entry-label}
-use Rattle.timetable.specs.Numbers.{serviceOf}
-use Rattle.pieces.specs.declared.Span.{Span}
-use Rattle.pieces.specs.declared.Meeting.{Meeting}
-use Rattle.pieces.specs.Pieces.{SpanIn, MeetAt}
+use Rattle.tables.specs.TablesLaws.{reads, tables-start, tables-end, room-entry, entry-label}
+use Rattle.label_sets.specs.declared.Span.{Span}
+use Rattle.label_sets.specs.declared.Meeting.{Meeting}
+use Rattle.label_sets.specs.Sets.{SpanIn, MeetAt}
+use Rattle.label_sets.specs.SetsLaws.{met-halves}
 use Rattle.support.specs.Spans.{spanOf, SpanAt, SpanSupported}
-use Rattle.support.specs.Marks.{RunAmong}
+use Rattle.support.specs.Marks.{RideAmong}
 
 -- ---- the label at a number of a set
 
-pub same-set : (b : List ℕ) (i j k : ℕ) → startOf b i ≤ k → k < endOf b i → startOf b j ≤ k → k < endOf b j → i ≡ j
-same-set b i j k h₁ h₂ h₃ h₄ = go (decLt i j) (decLt j i)
-  where
-    go : Dec (i < j) → Dec (j < i) → i ≡ j
-    go (yes l) d = absurd (omega (arith, start-more b i, start-rises b j (i + 1) (omega arith)))
-    go (no l) (yes m) = absurd (omega (arith, start-more b j, start-rises b i (j + 1) (omega arith)))
-    go (no l) (no m) = omega arith
-
 module _ {b : List ℕ} {n : ℕ} (g : GoodFile b n) {set k : ℕ} (real : set < 2 * n) (low : startOf b set ≤ k) (high : k < endOf b set) where
-  own-entry : (side : Side) → setOf side (ownerOf set) ≡ set → Entry (tablesOf b) side k (ownerOf set) (tablesOf b .hub k) (tablesOf b .dep k) (tablesOf b .arr k) (tablesOf b .pivot k)
+  own-entry : (side : Side) → setOf side (ownerOf set) ≡ set →
+      Entry (tablesOf b) side k (ownerOf set) (labelAt b k .hub) (labelAt b k .dep) (labelAt b k .arr) (pivotOf (labelAt b k .pivot))
   own-entry side e =
-      entry-at (omega (arith, tables-stops b, g .room .contents .stops))
+      room-entry (g .room) side (ownerOf set) k (omega arith)
       (omega (arith, tables-start b side (ownerOf set), ap (startOf b) e))
       (omega (arith, tables-end b side (ownerOf set), ap (endOf b) e))
 
   one-set : {side : Side} {o h d a : ℕ} {p : Option ℕ} → Entry (tablesOf b) side k o h d a p → setOf side o ≡ set
-  one-set {side} {o} x = same-set b (setOf side o) set k (omega (arith, x .low, tables-start b side o)) (omega (arith, x .high, tables-end b side o)) low high
+  one-set {side} {o} x = set-only b (omega (arith, x .low, tables-start b side o)) (omega (arith, x .high, tables-end b side o)) low high
 
   module _ {l : Label} {w : Span} (el : l ≡ labelAt b k) (ew : w ≡ spanOf set l) where
-    by-out : set % 2 ≡ 0 → w ≡ record { from = ownerOf set; to = labelAt b k .hub; dep = labelAt b k .dep; arr = labelAt b k .arr; pivot = labelAt b k .pivot }
+    by-out : set % 2 ≡ 0 →
+        w ≡ record { from = ownerOf set; to = labelAt b k .hub; dep = labelAt b k .dep; arr = labelAt b k .arr; pivot = labelAt b k .pivot }
     unfolding spanOf
     by-out e = ew ∙ rw (eq-eqb (set % 2) 0 e, el)
 
-    by-in : (set % 2 ≡ 0 → ⊥) → w ≡ record { from = labelAt b k .hub; to = ownerOf set; dep = labelAt b k .dep; arr = labelAt b k .arr; pivot = labelAt b k .pivot }
+    by-in : (set % 2 ≡ 0 → ⊥) →
+        w ≡ record { from = labelAt b k .hub; to = ownerOf set; dep = labelAt b k .dep; arr = labelAt b k .arr; pivot = labelAt b k .pivot }
     unfolding spanOf
     by-in e = ew ∙ rw (ne-eqb (set % 2) 0 e, el)
 
     pub span-label : SpanAt (tablesOf b) k w
-    unfolding tablesOf
     span-label = go (ℕ-discrete (set % 2) 0)
       where
         go : Dec (set % 2 ≡ 0) → SpanAt (tablesOf b) k w
@@ -67,15 +60,16 @@ module _ {b : List ℕ} {n : ℕ} (g : GoodFile b n) {set k : ℕ} (real : set <
 
     -- it is all that the tables say at this number
     pub span-only : (S : Service) → SpanSupported S (tablesOf b) w → SupportedAt S (tablesOf b) k
-    unfolding tablesOf
     span-only S s u v d a p (of-out x) =
+        let R = reads b k in
         let e : set % 2 ≡ 0 = omega (arith, one-set x) in
         let o : ownerOf set ≡ u = omega (arith, one-set x) in
-        rw (← o, ← x .hub, ← x .dep, ← x .arr, ← x .pivot) (rw (by-out e) at s)
+        rw (← o, ← x .hub, ← x .dep, ← x .arr, ← x .pivot, R .hub, R .dep, R .arr, R .pivot) (rw (by-out e) at s)
     span-only S s u v d a p (of-in x) =
+        let R = reads b k in
         let e : set % 2 ≡ 0 → ⊥ = λ q. omega (arith, one-set x) in
         let o : ownerOf set ≡ v = omega (arith, one-set x) in
-        rw (← o, ← x .hub, ← x .dep, ← x .arr, ← x .pivot) (rw (by-in e) at s)
+        rw (← o, ← x .hub, ← x .dep, ← x .arr, ← x .pivot, R .hub, R .dep, R .arr, R .pivot) (rw (by-in e) at s)
 
     pub span-tells : (S : Service) {r : Bool} → Tells (SpanSupported S (tablesOf b) w) r → Tells (SupportedAt S (tablesOf b) k) r
     span-tells S t = tells-as (span-only S, λ f. f _ _ _ _ _ span-label) t
@@ -97,18 +91,14 @@ module _ {b : List ℕ} {n : ℕ} (g : GoodFile b n) {set k : ℕ} (real : set <
 
 -- ---- support, with a pivot and without
 
-pub by-run : (stops : ℕ) {count : ℕ} (list : List ℕ) (T : Tables) (w : Span) {r : Bool} → w .pivot ≡ noPivot → Tells (RunAmong list count w) r →
-    Tells (SpanSupported (serviceOf stops count list) T w) r
-unfolding serviceOf
-by-run stops list T w e t = rw (eq-eqb (w .pivot) noPivot e) (tells-as (
-  (λ x. (x .0, record { below = x .1; forced = refl; goes = x .2 .goes; ends = x .2 .ends; leaves = x .2 .leaves; arrives = x .2 .arrives })),
-  (λ x. (x .0, x .1 .below, record { goes = x .1 .goes; ends = x .1 .ends; leaves = x .1 .leaves; arrives = x .1 .arrives })),
-) t)
+pub by-ride : (S : Service) (T : Tables) (w : Span) {count : ℕ} {r : Bool} → S .slots ≡ count → w .pivot ≡ noPivot → Tells (RideAmong S count w) r →
+    Tells (SpanSupported S T w) r
+by-ride S T w q e t =
+    rw (eq-eqb (w .pivot) noPivot e) (tells-as ((λ x. (x .0, x .2)), (λ x. (x .0, omega (arith, x .1 .below), x .1))) t)
 
 module _ (S : Service) (T : Tables) (w : Span) (e : w .pivot ≡ noPivot → ⊥) where
   pub by-halves : (h : Meeting) → MeetAt T w h → Tells (SpanSupported S T w) true
-  by-halves h m = rw (ne-eqb (w .pivot) noPivot e)
-      (tells-yes (record { mid = h .mid; start = h .start; pivot₁ = pivotOf (h .first); pivot₂ = pivotOf (h .second); first = m .first; second = m .second; meets = m .meets }))
+  by-halves h m = rw (ne-eqb (w .pivot) noPivot e) (tells-yes (met-halves w h m))
 
   pub no-halves : ¬ (Halves T (w .from) (w .pivot) (w .to) (w .dep) (w .arr)) → Tells (SpanSupported S T w) false
   no-halves n = rw (ne-eqb (w .pivot) noPivot e) (tells-no n)

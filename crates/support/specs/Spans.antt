@@ -7,7 +7,7 @@ use Rattle.journeys.specs.Service.{Service}
 use Rattle.journeys.specs.Tables.{Tables, LabelAt}
 use Rattle.journeys.specs.Check.{Supported}
 use Rattle.tables.specs.File.{ownerOf, pivotOf}
-use Rattle.pieces.specs.declared.Span.{Span}
+use Rattle.label_sets.specs.declared.Span.{Span}
 
 -- "an out-label of u with hub v", "an in-label of v with hub u": label l of a set, whose number says its owner and its side
 unfoldable pub spanOf : ℕ → Label → Span

@@ -1,76 +1,88 @@
 // Whether the labels of good tables are supported, label by label in the file's order.
+use journeys::Ride;
 use kinds::Label;
-use kinds::Run;
-use pieces::Moment;
-use pieces::Parted;
-use pieces::Sought;
-use pieces::Span;
+use label_sets::Moment;
+use label_sets::Parted;
+use label_sets::Sought;
+use label_sets::Span;
+use timetable::Given;
+use timetable::SlotRead;
 ghost use mathlib.Core.Path.{_≡_};
-ghost use Prim.Native.Nat.{ℕ, _+_, _*_, _≤_, _<_};
+ghost use Prim.Native.Nat.{_+_, _*_, _≤_, _<_};
 ghost use lib.ListN.{length};
 ghost use Rattle.loops.specs.Fails.{FailsAt};
 ghost use Rattle.loops.specs.Tells.{Tells};
-ghost use Rattle.kinds.specs.Limits.{mostStops, mostRuns, mostLabels};
+ghost use Rattle.kinds.specs.Limits.{mostStops, mostLabels};
 ghost use Rattle.journeys.specs.Check.{SupportedAt};
 ghost use Rattle.tables.specs.File.{tablesOf, labelsOf, startOf, endOf};
-ghost use Rattle.tables.specs.Good.{GoodFile};
-ghost use Rattle.timetable.specs.Numbers.{serviceOf, GoodNumbers};
-ghost use Rattle.ground.specs.Ground.{startsRoom, groundRoom, Ready};
-ghost use Rattle.pieces.specs.Pieces.{SpanIn};
-ghost use Rattle.support.specs.Marks.{Notes, MarkedWith, Marked, RunAmong};
+ghost use Rattle.timetable.specs.Numbers.{GoodNumbers};
+ghost use Rattle.timetable.specs.Slots.{mostSlots, slotsOf, serviceOf};
+ghost use Rattle.label_sets.specs.Starts.{startsRoom, Started};
+ghost use Rattle.label_sets.specs.Sets.{SpanIn};
+ghost use Rattle.both.specs.Both.{workRoom, BothGood};
+ghost use Rattle.support.specs.Marks.{Notes, MarkedWith, Marked, RideAmong};
 ghost use Rattle.support.specs.Spans.{spanOf, SpanAt, SpanSupported};
 
-// ---- The runs, each noted at the label that it is.
+// ---- The rides, each slot noted at the label that its ride is.
 
-// Run i, at the label with its ends and minutes if there is one.
-fn mark(tables: &[u8], n: u16, room: &mut [u16], run: Run, i: usize)
-    requires { ⌜ Ready (now tables) n (now room) ⌝ }
-    requires { ⌜ groundRoom ≤ length (now room) ⌝ }
-    requires { ⌜ (run .from < n) × (run .to < n) ⌝ }
-    requires { ⌜ i < mostRuns ⌝ }
-    ensures { λ _. ⌜ MarkedWith (tablesOf (now (tables .entry))) run i (now (room .entry)) (now (room .exit)) ⌝ }
+// One slot, at the label with its ride's ends and minutes if there is one.
+fn mark(tables: &[u8], n: u16, ride: Ride, slot: usize, room: &mut [u16])
+    requires { ⌜ Started (now tables) n (now room) ⌝ }
+    requires { ⌜ workRoom ≤ length (now room) ⌝ }
+    requires { ⌜ (ride .from < n) × (ride .to < n) ⌝ }
+    requires { ⌜ slot < mostSlots ⌝ }
+    ensures { λ _. ⌜ MarkedWith (tablesOf (now (tables .entry))) ride slot (now (room .entry)) (now (room .exit)) ⌝ }
 {
-    let sought = pieces::find(tables, n, room, run.from, run.to, Moment::Leaving(run.dep));
+    let sought = label_sets::find(
+        tables,
+        n,
+        room,
+        ride.from,
+        ride.to,
+        Moment::Leaving(ride.dep),
+    );
     match sought {
         Sought::Missing => {}
         Sought::Found(k, l) => {
-            if l.arr == run.arr {
-                room[ground::STARTS + (k as usize)] = i as u16;
+            if l.arr == ride.arr {
+                room[label_sets::STARTS + (k as usize)] = slot as u16;
             }
         }
     }
 }
 
-// The working room made ready: the starts of the sets, and behind them, for each label that a run is, such a run. What stands at another
-// label is of no matter, so nothing is cleared: the run is asked whether it is the label.
-pub fn mark_all(tables: &[u8], n: u16, runs: &[u32], count: usize, room: &mut [u16])
-    requires { ⌜ GoodFile (now tables) n ⌝ }
-    requires { ⌜ GoodNumbers n count (now runs) ⌝ }
-    requires { ⌜ groundRoom ≤ length (now room) ⌝ }
-    ensures { λ _. ⌜ Marked (now (tables .entry)) n (now (room .exit)) (now (runs .entry)) count ⌝ }
+// The working room made ready: the starts of the sets, and behind them, for each label that a ride is, the slot of such a ride. What stands
+// at another label is of no matter, so nothing is cleared: the slot is asked whether its ride is the label.
+pub fn mark_all(tables: &[u8], n: u16, given: Given, runs: &[u32], room: &mut [u16])
+    requires { ⌜ BothGood (now tables) n given (now runs) ⌝ }
+    requires { ⌜ workRoom ≤ length (now room) ⌝ }
+    ensures { λ _. ⌜ Marked (now (tables .entry)) n given (now (runs .entry)) (now (room .exit)) ⌝ }
 {
     tables::starts(tables, n, room);
+    let slots = timetable::slots(given);
     let mut i = 0;
-    while i < count {
-        let run = timetable::run_at(runs, i);
-        mark(tables, n, room, run, i);
+    while i < slots {
+        let read = timetable::ride_at(given, runs, i);
+        match read {
+            SlotRead::InForce(ride) => mark(tables, n, ride, i, room),
+            SlotRead::NotInForce => {}
+        }
         i += 1;
     }
 }
 
-// Whether a run has the ends and minutes of label k: the one that is noted there, if any.
-fn has_run(runs: &[u32], count: usize, room: &[u16], k: usize, s: Span) -> bool
-    requires { ⌜ ((n : ℕ) × GoodNumbers n count (now runs)) ⌝ }
+// Whether a run has the ends and minutes of label k: the one at the slot that is noted there, if any.
+fn has_run(given: Given, runs: &[u32], room: &[u16], k: usize, s: Span) -> bool
+    requires { ⌜ GoodNumbers given (now runs) ⌝ }
     requires { ⌜ startsRoom + k < length (now room) ⌝ }
-    requires { ⌜ Notes (now runs) count (now room) k s ⌝ }
-    ensures { λ r. ⌜ Tells (RunAmong (now (runs .entry)) count s) r ⌝ }
+    requires { ⌜ Notes (serviceOf given (now runs)) (slotsOf given) (now room) k s ⌝ }
+    ensures { λ r. ⌜ Tells (RideAmong (serviceOf given (now (runs .entry))) (slotsOf given) s) r ⌝ }
 {
-    let i = room[ground::STARTS + k] as usize;
-    if count <= i {
+    let slot = room[label_sets::STARTS + k] as usize;
+    if timetable::slots(given) <= slot {
         return false;
     }
-    let run = timetable::run_at(runs, i);
-    departures::is_run(run, s.from, s.to, s.dep, s.arr)
+    timetable::ride_is(given, runs, slot, s.from, s.to, s.dep, s.arr)
 }
 
 // ---- The labels.
@@ -80,21 +92,21 @@ fn is_supported(
     tables: &[u8],
     n: u16,
     room: &[u16],
+    given: Given,
     runs: &[u32],
-    count: usize,
     k: usize,
     s: Span,
 ) -> bool
-    requires { ⌜ Marked (now tables) n (now room) (now runs) count ⌝ }
+    requires { ⌜ Marked (now tables) n given (now runs) (now room) ⌝ }
     requires { ⌜ k < mostLabels ⌝ }
     requires { ⌜ SpanIn n s ⌝ }
     requires { ⌜ SpanAt (tablesOf (now tables)) k s ⌝ }
-    ensures { λ r. ⌜ Tells (SpanSupported (serviceOf n count (now (runs .entry))) (tablesOf (now (tables .entry))) s) r ⌝ }
+    ensures { λ r. ⌜ Tells (SpanSupported (serviceOf given (now (runs .entry))) (tablesOf (now (tables .entry))) s) r ⌝ }
 {
     if s.pivot == Label::NO_PIVOT {
-        return has_run(runs, count, room, k, s);
+        return has_run(given, runs, room, k, s);
     }
-    let parted = pieces::halves(tables, n, room, s);
+    let parted = label_sets::halves(tables, n, room, s);
     match parted {
         Parted::Met(_) => true,
         Parted::Missing => false,
@@ -130,17 +142,17 @@ fn supported_at(
     tables: &[u8],
     n: u16,
     room: &[u16],
+    given: Given,
     runs: &[u32],
-    count: usize,
     set: usize,
     k: usize,
 ) -> bool
-    requires { ⌜ Marked (now tables) n (now room) (now runs) count ⌝ }
+    requires { ⌜ Marked (now tables) n given (now runs) (now room) ⌝ }
     requires { ⌜ (set < 2 * n) × (startOf (now tables) set ≤ k) × (k < endOf (now tables) set) ⌝ }
-    ensures { λ r. ⌜ Tells (SupportedAt (serviceOf n count (now (runs .entry))) (tablesOf (now (tables .entry))) k) r ⌝ }
+    ensures { λ r. ⌜ Tells (SupportedAt (serviceOf given (now (runs .entry))) (tablesOf (now (tables .entry))) k) r ⌝ }
 {
     let l = tables::label_at(tables, n, k);
-    is_supported(tables, n, room, runs, count, k, span_of(set, l))
+    is_supported(tables, n, room, given, runs, k, span_of(set, l))
 }
 
 // The first label of a set that is not supported, or the set's end.
@@ -148,18 +160,19 @@ fn first_of_set(
     tables: &[u8],
     n: u16,
     room: &[u16],
+    given: Given,
     runs: &[u32],
-    count: usize,
     set: usize,
 ) -> usize
-    requires { ⌜ Marked (now tables) n (now room) (now runs) count ⌝ }
+    requires { ⌜ Marked (now tables) n given (now runs) (now room) ⌝ }
     requires { ⌜ set < 2 * n ⌝ }
-    ensures { λ r. ⌜ FailsAt (SupportedAt (serviceOf n count (now (runs .entry))) (tablesOf (now (tables .entry)))) (startOf (now (tables .entry)) set) (endOf (now (tables .entry)) set) r ⌝ }
+    ensures { λ r. ⌜ FailsAt (SupportedAt (serviceOf given (now (runs .entry))) (tablesOf (now (tables .entry))))
+        (startOf (now (tables .entry)) set) (endOf (now (tables .entry)) set) r ⌝ }
 {
-    let end = ground::start_at(room, set + 1);
-    let mut k = ground::start_at(room, set);
+    let end = label_sets::start_at(room, set + 1);
+    let mut k = label_sets::start_at(room, set);
     while k < end {
-        if !supported_at(tables, n, room, runs, count, set, k) {
+        if !supported_at(tables, n, room, given, runs, set, k) {
             return k;
         }
         k += 1;
@@ -168,18 +181,19 @@ fn first_of_set(
 }
 
 // The first label of all that is not supported, or the number of labels.
-pub fn first_unsupported(tables: &[u8], n: u16, room: &[u16], runs: &[u32], count: usize) -> usize
-    requires { ⌜ Marked (now tables) n (now room) (now runs) count ⌝ }
-    ensures { λ r. ⌜ FailsAt (SupportedAt (serviceOf n count (now (runs .entry))) (tablesOf (now (tables .entry)))) 0 (labelsOf (now (tables .entry))) r ⌝ }
+pub fn first_unsupported(tables: &[u8], n: u16, room: &[u16], given: Given, runs: &[u32]) -> usize
+    requires { ⌜ Marked (now tables) n given (now runs) (now room) ⌝ }
+    ensures { λ r. ⌜ FailsAt (SupportedAt (serviceOf given (now (runs .entry))) (tablesOf (now (tables .entry))))
+        0 (labelsOf (now (tables .entry))) r ⌝ }
 {
     let sets = 2 * (n as usize);
     let mut set = 0;
     while set < sets {
-        let k = first_of_set(tables, n, room, runs, count, set);
-        if k < ground::start_at(room, set + 1) {
+        let k = first_of_set(tables, n, room, given, runs, set);
+        if k < label_sets::start_at(room, set + 1) {
             return k;
         }
         set += 1;
     }
-    ground::start_at(room, sets)
+    label_sets::start_at(room, sets)
 }

@@ -36,6 +36,15 @@ module _ (b : List ℕ) where
   pub end-within : (m set : ℕ) → set < m → endOf b set ≤ startOf b m
   end-within m set lt = omega (arith, start-more set, start-rises m (set + 1) (omega arith))
 
+  -- so a label stands in one set only
+  pub set-only : {i j k : ℕ} → startOf b i ≤ k → k < endOf b i → startOf b j ≤ k → k < endOf b j → i ≡ j
+  set-only {i} {j} h₁ h₂ h₃ h₄ = go (decLt i j) (decLt j i)
+    where
+      go : Dec (i < j) → Dec (j < i) → i ≡ j
+      go (yes l) d = absurd (omega (arith, end-within j i l))
+      go (no l) (yes m) = absurd (omega (arith, end-within i j m))
+      go (no l) (no m) = omega arith
+
 -- and within the labels of the file
 pub set-within : {b : List ℕ} {n set : ℕ} → Contents b n → set < 2 * n → endOf b set ≤ labelsOf b
 set-within {b} {n} {set} g lt = end-within b (2 * stopsOf b) set (omega (arith, g .stops))

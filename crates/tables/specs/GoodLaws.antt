@@ -4,24 +4,22 @@ use mathlib.Core.Path.{_≡_, refl, sym, subst, _∙_}
 use mathlib.Core.List.{List}
 use mathlib.Core.Bool.{Bool, true, false, cond}
 use mathlib.Core.Option.{Option, none, some}
-use mathlib.Core.Logic.{_⊎_, inl, inr}
 use native.Mathlib.Omega.{arith}
-use native.Mathlib.Decide.{ℕ-discrete}
 use lib.ListN.{length, getD}
 use lib.Dec.{ltb, leb, eqb}
-use borrow.Author.Tests.{lt-ltb, le-ltb, lt-leb, le-leb, eq-eqb, ne-eqb, ltb-true, ltb-false, leb-true, eqb-true}
-use Rattle.loops.specs.Chain.{past, stays}
+use borrow.Author.Tests.{lt-ltb, le-ltb, le-leb, eq-eqb, ne-eqb, ltb-true, ltb-false, leb-true, eqb-true}
+use Rattle.loops.specs.ChainLaws.{past, stays}
 use Rattle.loops.specs.FirstOfLaws.{first-of-clear, first-of-all}
-use Rattle.kinds.specs.Limits.{noPivot, lastMinute, mostStops, mostLabels}
-use Rattle.kinds.specs.Kinds.{labelOf, isStopCount, GoodPivot}
-use Rattle.kinds.specs.KindsLaws.{label-good, stop-count}
+use Rattle.kinds.specs.Limits.{mostLabels}
+use Rattle.kinds.specs.Kinds.{labelOf, isStopCount}
+use Rattle.kinds.specs.KindsLaws.{count-is, stop-count, label-good, label-is}
 use Rattle.kinds.specs.declared.Label.{Label}
 use Rattle.kinds.specs.declared.LabelRead.{LabelRead}
 use Rattle.kinds.specs.declared.LabelRead.the-variants as label
 use Rattle.tables.specs.declared.TablesRead.the-variants.{Good}
 use Rattle.tables.specs.Format.{formatMark, headerBytes, entryBytes}
 use Rattle.tables.specs.File.{stopsOf, ownerOf, countOf, startOf, labelsOf, placeOf, labelAt}
-use Rattle.tables.specs.Judged.{follows, isGood, goodLabel, badLabel, badInSet, firstBad, judgedBy, judgedContents, judgedTables}
+use Rattle.tables.specs.Judged.{follows, isGood, goodLabel, badLabel, badInSet, firstBad, unlessBad, judgedContents, judgedTables}
 use Rattle.tables.specs.Good.{After, higher, later, LabelGood, GoodEntry, GoodFile}
 
 -- ---- one label
@@ -34,24 +32,7 @@ alone-good : (n owner : ℕ) (l : Label) → isGood (labelOf n owner (l .hub) (l
 alone-good n owner l e = let z = read-is-good _ e in label-good _ _ _ _ _ _ (z .0) (z .1) .0
 
 good-alone : (n owner : ℕ) (l : Label) → LabelGood n owner l → isGood (labelOf n owner (l .hub) (l .dep) (l .arr) (l .pivot)) ≡ true
-unfolding labelOf
-good-alone n owner l g = go (ℕ-discrete (l .pivot) noPivot) (g .pivoted)
-  where
-    go : Dec (l .pivot ≡ noPivot) → (l .pivot ≡ noPivot) ⊎ GoodPivot n owner (l .hub) (l .pivot) →
-        isGood (labelOf n owner (l .hub) (l .dep) (l .arr) (l .pivot)) ≡ true
-    go (yes e) q =
-        rw (lt-leb owner (l .hub) (g .low), lt-leb (l .arr) (l .dep) (g .later), le-ltb lastMinute (l .arr) (g .last), eq-eqb (l .pivot) noPivot e)
-    go (no ne) (inl e) = absurd (ne e)
-    go (no ne) (inr q) =
-        rw (
-          lt-leb owner (l .hub) (g .low),
-          lt-leb (l .arr) (l .dep) (g .later),
-          le-ltb lastMinute (l .arr) (g .last),
-          ne-eqb (l .pivot) noPivot ne,
-          lt-leb (l .pivot) (l .hub) (q .above),
-          lt-leb n (l .pivot) (q .below),
-          ne-eqb (l .pivot) owner (q .other),
-        )
+good-alone n owner l g = rw (label-is n owner (l .hub) (l .dep) (l .arr) (l .pivot) g)
 
 -- ---- one label after another
 
@@ -112,7 +93,7 @@ module _ (b : List ℕ) (set i : ℕ) where
 
 -- ---- the file
 
-by-good : (o : Option ℕ) (m n : ℕ) → judgedBy o m ≡ Good n → (o ≡ none) × (m ≡ n)
+by-good : (o : Option ℕ) (m n : ℕ) → unlessBad o m ≡ Good n → (o ≡ none) × (m ≡ n)
 by-good none m n e = (refl, cc)
 by-good (some k) m n e = let z : _≡_ {A = ℕ} 0 1 = cc in absurd (omega arith)
 
@@ -141,13 +122,12 @@ judged-good b n e =
     })
 
 good-judged-own : (b : List ℕ) → GoodFile b (stopsOf b) → judgedTables b ≡ Good (stopsOf b)
-unfolding judgedTables judgedContents isStopCount
+unfolding judgedTables judgedContents
 good-judged-own b g =
     rw (
       le-leb headerBytes (length b) (omega arith),
       eq-eqb (getD b 0 0) formatMark (g .mark),
-      ne-eqb (stopsOf b) 0 (λ e. omega arith),
-      le-leb (stopsOf b) mostStops (g .room .contents .few),
+      count-is (stopsOf b) (g .some) (g .room .contents .few),
       le-leb (headerBytes + entryBytes * stopsOf b) (length b) (g .room .contents .fits),
       le-leb (labelsOf b) mostLabels (g .room .few-labels),
       eq-eqb (length b) (placeOf (stopsOf b) (labelsOf b)) (g .room .exact),
@@ -156,4 +136,6 @@ good-judged-own b g =
 
 -- and bytes that are so are judged good
 pub good-judged : (b : List ℕ) (n : ℕ) → GoodFile b n → judgedTables b ≡ Good n
-good-judged b n g = subst (λ (m : ℕ). judgedTables b ≡ Good m) (g .room .contents .stops) (good-judged-own b (subst (GoodFile b) (sym (g .room .contents .stops)) g))
+good-judged b n g =
+    let e = g .room .contents .stops in
+    subst (λ (m : ℕ). judgedTables b ≡ Good m) e (good-judged-own b (subst (GoodFile b) (sym e) g))

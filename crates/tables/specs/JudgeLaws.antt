@@ -15,9 +15,9 @@ use Rattle.kinds.specs.declared.Label.{Label}
 use Rattle.tables.specs.declared.LabelsRead.the-variants.{AllGood, BadAt}
 use Rattle.tables.specs.declared.TablesRead.the-variants.{No}
 use Rattle.tables.specs.Format.{headerBytes, entryBytes}
-use Rattle.tables.specs.Turns.{labelsRead, lastOf}
+use Rattle.tables.specs.Turns.{labelsRead, lastOf, GoodTo}
 use Rattle.tables.specs.File.{stopsOf, ownerOf, startOf, labelsOf, placeOf, labelAt}
-use Rattle.tables.specs.Judged.{follows, goodLabel, badLabel, firstBad, judgedBy, judgedContents}
+use Rattle.tables.specs.Judged.{follows, goodLabel, badLabel, firstBad, unlessBad, judgedContents}
 
 pub read-good : (o : Option ℕ) → labelsRead o ≡ AllGood → o ≡ none
 read-good none e = refl
@@ -27,19 +27,12 @@ pub read-bad : (o : Option ℕ) (k : ℕ) → labelsRead o ≡ BadAt k → o ≡
 read-bad none k e = let z : _≡_ {A = ℕ} 0 1 = cc in absurd (omega arith)
 read-bad (some m) k e = cc
 
--- the first i labels of a set were good, and the last of them says hub h, departure d, arrival a
-pub record Passed (b : List ℕ) (set i h d a : ℕ) : Type 0 where
-  pub clear : firstOf (badLabel b set) i ≡ none
-  pub hub : 0 < i → h ≡ labelAt b (startOf b set + i - 1) .hub
-  pub dep : 0 < i → d ≡ labelAt b (startOf b set + i - 1) .dep
-  pub arr : 0 < i → a ≡ labelAt b (startOf b set + i - 1) .arr
-
-pub passed-none : {b : List ℕ} {set h d a : ℕ} → Passed b set 0 h d a
-passed-none =
+pub good-to-none : {b : List ℕ} {set h d a : ℕ} → GoodTo b set 0 h d a
+good-to-none =
     record { clear = first-of-none _; hub = λ lt. absurd (omega arith); dep = λ lt. absurd (omega arith); arr = λ lt. absurd (omega arith) }
 
 -- what the loop holds does for the label before
-same : {b : List ℕ} {set h d a : ℕ} (i : ℕ) → Passed b set i h d a →
+same : {b : List ℕ} {set h d a : ℕ} (i : ℕ) → GoodTo b set i h d a →
     goodLabel (stopsOf b) (ownerOf set) i (labelAt b (startOf b set + i - 1)) (labelAt b (startOf b set + i)) ≡
     goodLabel (stopsOf b) (ownerOf set) i (lastOf h d a) (labelAt b (startOf b set + i))
 unfolding goodLabel follows
@@ -47,7 +40,7 @@ same zero p = refl
 same (suc i) p = rw (p .hub (omega arith), p .dep (omega arith), p .arr (omega arith))
 
 -- a turn of the loop, by what the code holds: the stop count, the set's start, the label that was read, and how it was judged
-module _ {b : List ℕ} {set i h d a n start : ℕ} {l : Label} {good : Bool} (p : Passed b set i h d a) (en : stopsOf b ≡ n) (es : start ≡ startOf b set)
+module _ {b : List ℕ} {set i h d a n start : ℕ} {l : Label} {good : Bool} (p : GoodTo b set i h d a) (en : stopsOf b ≡ n) (es : start ≡ startOf b set)
     (el : l ≡ labelAt b (start + i)) (eg : good ≡ goodLabel n (ownerOf set) i (lastOf h d a) l) where
   judged : goodLabel (stopsOf b) (ownerOf set) i (labelAt b (startOf b set + i - 1)) (labelAt b (startOf b set + i)) ≡ good
   judged = same i p ∙ rw (← es, ← el, en) (sym eg)
@@ -55,9 +48,9 @@ module _ {b : List ℕ} {set i h d a n start : ℕ} {l : Label} {good : Bool} (p
   this : l ≡ labelAt b (startOf b set + (i + 1) - 1)
   this = el ∙ ap (labelAt b) (omega (arith, es))
 
-  pub passed-more : good ≡ true → Passed b set (i + 1) (l .hub) (l .dep) (l .arr)
+  pub good-to-more : good ≡ true → GoodTo b set (i + 1) (l .hub) (l .dep) (l .arr)
   unfolding badLabel
-  passed-more e =
+  good-to-more e =
       record {
         clear = first-of-more _ i (p .clear) (rw (judged, e));
         hub = λ lt. ap (λ (x : Label). x .hub) this;
@@ -65,9 +58,9 @@ module _ {b : List ℕ} {set i h d a n start : ℕ} {l : Label} {good : Bool} (p
         arr = λ lt. ap (λ (x : Label). x .arr) this;
       }
 
-  pub passed-bad : (count : ℕ) → i < count → good ≡ false → firstOf (badLabel b set) count ≡ some (start + i)
+  pub good-to-bad : (count : ℕ) → i < count → good ≡ false → firstOf (badLabel b set) count ≡ some (start + i)
   unfolding badLabel
-  passed-bad count lt e = first-of-here _ count i lt (p .clear) (rw (judged, e, es))
+  good-to-bad count lt e = first-of-here _ count i lt (p .clear) (rw (judged, e, es))
 
 -- the tests behind the header, one after the other
 module _ (b : List ℕ) where
@@ -85,6 +78,6 @@ module _ (b : List ℕ) where
       unfolding judgedContents
       length-differs ne = rw (le-leb _ _ fits, le-leb _ _ few, ne-eqb _ _ ne)
 
-      pub by-labels : {o : Option ℕ} → length b ≡ placeOf (stopsOf b) (labelsOf b) → firstBad b ≡ o → judgedContents b ≡ judgedBy o (stopsOf b)
+      pub by-labels : {o : Option ℕ} → length b ≡ placeOf (stopsOf b) (labelsOf b) → firstBad b ≡ o → judgedContents b ≡ unlessBad o (stopsOf b)
       unfolding judgedContents
       by-labels e f = rw (le-leb _ _ fits, le-leb _ _ few, eq-eqb _ _ e, f)

@@ -46,9 +46,10 @@ badInSet b set = firstOf (badLabel b set) (countOf b set)
 abbrev pub firstBad : List ℕ → Option ℕ
 firstBad b = firstOf (badInSet b) (2 * stopsOf b)
 
-abbrev pub judgedBy : Option ℕ → ℕ → TablesRead
-judgedBy none n = Good n
-judgedBy (some k) n = No (refusal labelBad k)
+-- the stop count, unless a label is bad
+abbrev pub unlessBad : Option ℕ → ℕ → TablesRead
+unlessBad none n = Good n
+unlessBad (some k) n = No (refusal labelBad k)
 
 -- 10: "contents cut short, over 8,192 labels, or length differs"; 11: "label not good", and the first such label is the place
 unfoldable pub judgedContents : List ℕ → TablesRead
@@ -57,7 +58,7 @@ judgedContents b =
     unless (leb (headerBytes + entryBytes * n) (length b)) (No (refusal tablesLength 0))
     (unless (leb (labelsOf b) mostLabels) (No (refusal tablesLength 0))
     (unless (eqb (length b) (placeOf n (labelsOf b))) (No (refusal tablesLength 0))
-    (judgedBy (firstBad b) n)))
+    (unlessBad (firstBad b) n)))
 
 -- 9: "shorter than 2 bytes, byte 0 not 1, or n = 0" (a byte is a stop count unless it is 0)
 unfoldable pub judgedTables : List ℕ → TablesRead

@@ -1,13 +1,17 @@
 pub mod Format
 pub mod File
+pub mod Read
 pub mod Judged
 pub mod Good
+pub mod Refused
 pub mod Turns
 pub mod FileLaws
 pub mod JudgeLaws
 pub mod GoodLaws
 pub mod TablesLaws
 pub mod RefusalLaws
+pub mod LongLaws
 pub mod Write
 pub mod WriteLaws
 pub mod OneFile
+pub mod OneFileLaws

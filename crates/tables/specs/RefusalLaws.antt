@@ -1,37 +1,59 @@
--- Refusal 11 names a label that there is, that is not good, and before which every label is good.
+-- Tables are refused by 9, 10 or 11; and 11 names a label that there is, that is not good, and before which every label is good.
 use Prim.Native.Nat.{ℕ, _+_, _*_, _<_}
 use mathlib.Core.Path.{_≡_, refl, ap, sym, subst, _∙_}
 use mathlib.Core.List.{List}
 use mathlib.Core.Option.{Option, none, some}
+use mathlib.Core.Bool.{Bool, true, false, cond}
 use native.Mathlib.Omega.{arith}
 use native.Mathlib.Decide.{decLt}
 use lib.ListN.{length, getD}
 use lib.Dec.{leb, eqb}
 use borrow.Author.Tests.{leb-true, eqb-true}
-use Rattle.loops.specs.Chain.{past, stays}
-use Rattle.loops.specs.FirstOfLaws.{FoundAt, first-of-clear, first-of-found}
+use Rattle.loops.specs.ChainLaws.{either, past, stays}
+use Rattle.loops.specs.FirstOfLaws.{first-of-clear, first-of-found}
+use Rattle.loops.specs.FirstOf.{FoundAt}
 use Rattle.kinds.specs.Limits.{mostLabels}
-use Rattle.kinds.specs.Refusals.{labelBad, refusal}
+use Rattle.kinds.specs.Refusals.{noTables, tablesLength, labelBad, refusal}
 use Rattle.kinds.specs.Kinds.{isStopCount}
 use Rattle.kinds.specs.KindsLaws.{stop-count}
 use Rattle.tables.specs.declared.TablesRead.{TablesRead}
 use Rattle.tables.specs.declared.TablesRead.the-variants.{Good, No}
 use Rattle.tables.specs.Format.{formatMark, headerBytes, entryBytes}
 use Rattle.tables.specs.File.{stopsOf, ownerOf, countOf, startOf, labelsOf, placeOf}
-use Rattle.tables.specs.Judged.{goodLabel, badLabel, badInSet, firstBad, judgedBy, judgedContents, judgedTables}
+use Rattle.tables.specs.Judged.{goodLabel, badLabel, badInSet, firstBad, unlessBad, judgedContents, judgedTables}
 use Rattle.tables.specs.FileLaws.{start-rises, start-more}
 use Rattle.tables.specs.Good.{Room, GoodEntry}
+use Rattle.tables.specs.Refused.{BadFirst, TablesRefusal, IfRefused}
 use Rattle.tables.specs.GoodLaws.{entry-good, good-entry}
 
--- label k is label i of this set; it is not good, and every label before it is
-pub record BadFirst (b : List ℕ) (n k : ℕ) : Type 0 where
-  pub set : ℕ
-  pub i : ℕ
-  pub real : set < 2 * n
-  pub within : i < countOf b set
-  pub is : k ≡ startOf b set + i
-  pub fault : ¬ (GoodEntry b n set i)
-  pub before : (t j : ℕ) → t < 2 * n → j < countOf b t → startOf b t + j < k → GoodEntry b n t j
+-- ---- which refusals
+
+refused-nine : TablesRefusal (refusal noTables 0)
+refused-nine = record { least = omega arith; most = omega arith; one-place = refl }
+
+refused-ten : TablesRefusal (refusal tablesLength 0)
+refused-ten = record { least = omega arith; most = omega arith; one-place = refl }
+
+refused-bad : (o : Option ℕ) (n : ℕ) → IfRefused (unlessBad o n)
+refused-bad none n = tt
+refused-bad (some k) n = record { least = omega arith; most = omega arith; one-place = refl }
+
+refused-contents : (b : List ℕ) → IfRefused (judgedContents b)
+unfolding judgedContents
+refused-contents b =
+    either IfRefused (leb (headerBytes + entryBytes * stopsOf b) (length b))
+    (either IfRefused (leb (labelsOf b) mostLabels)
+    (either IfRefused (eqb (length b) (placeOf (stopsOf b) (labelsOf b))) (refused-bad (firstBad b) (stopsOf b)) refused-ten) refused-ten)
+    refused-ten
+
+pub judged-refusal : (b : List ℕ) → IfRefused (judgedTables b)
+unfolding judgedTables
+judged-refusal b =
+    either IfRefused (leb headerBytes (length b))
+    (either IfRefused (eqb (getD b 0 0) formatMark)
+    (either IfRefused (isStopCount (stopsOf b)) (refused-contents b) refused-nine) refused-nine) refused-nine
+
+-- ---- the label that is not good
 
 number-of : TablesRead → ℕ
 number-of (Good n) = 0
@@ -41,14 +63,14 @@ place-of : TablesRead → ℕ
 place-of (Good n) = 0
 place-of (No r) = r .place
 
-by-bad : (o : Option ℕ) (n k : ℕ) → judgedBy o n ≡ No (refusal labelBad k) → o ≡ some k
+by-bad : (o : Option ℕ) (n k : ℕ) → unlessBad o n ≡ No (refusal labelBad k) → o ≡ some k
 unfolding place-of
 by-bad none n k e = let z : _≡_ {A = ℕ} 0 1 = cc in absurd (omega arith)
 by-bad (some m) n k e = ap some (ap place-of e)
 
 -- the label that was found in a set
-in-set : (b : List ℕ) (set k : ℕ) → FoundAt (badLabel b set) (countOf b set) k → (i : ℕ) × (i < countOf b set) × (k ≡ startOf b set + i) × (badLabel b set i ≡ none → ⊥) ×
-    ((j : ℕ) → j < i → badLabel b set j ≡ none)
+in-set : (b : List ℕ) (set k : ℕ) → FoundAt (badLabel b set) (countOf b set) k →
+    (i : ℕ) × (i < countOf b set) × (k ≡ startOf b set + i) × (badLabel b set i ≡ none → ⊥) × ((j : ℕ) → j < i → badLabel b set j ≡ none)
 unfolding badLabel
 in-set b set k f =
     let z = past (goodLabel (stopsOf b) (ownerOf set) (f .at) _ _) (f .has) (λ x. let y : _≡_ {A = ℕ} 0 1 = cc in omega arith) in
@@ -71,7 +93,8 @@ bad-first b k e = go (first-of-found (badInSet b) (2 * stopsOf b) e)
           before = λ t j lt h m. entry-good b t j (clear x t j h m (decLt t (f .at)) (decLt (f .at) t));
         }
       where
-        clear : (x : (i : ℕ) × (i < countOf b (f .at)) × (k ≡ startOf b (f .at) + i) × (badLabel b (f .at) i ≡ none → ⊥) × ((j : ℕ) → j < i → badLabel b (f .at) j ≡ none)) →
+        clear : (x : (i : ℕ) × (i < countOf b (f .at)) × (k ≡ startOf b (f .at) + i) × (badLabel b (f .at) i ≡ none → ⊥) ×
+            ((j : ℕ) → j < i → badLabel b (f .at) j ≡ none)) →
             (t j : ℕ) → j < countOf b t → startOf b t + j < k → Dec (t < f .at) → Dec (f .at < t) → badLabel b t j ≡ none
         clear x t j h m (yes lt) d = first-of-clear (badLabel b t) (countOf b t) j (f .clear t lt) h
         clear x t j h m (no ge) (yes gt) = absurd (omega (arith, start-more b (f .at), start-rises b t (f .at + 1) (omega arith), x .1, x .2))

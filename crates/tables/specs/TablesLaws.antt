@@ -6,16 +6,17 @@ use mathlib.Core.Option.{Option, none, some}
 use mathlib.Core.Logic.{_⊎_, inl, inr, ⊎-elim}
 use native.Mathlib.Omega.{arith}
 use native.Mathlib.Nat.{eq-or-lt-of-le}
-use native.Mathlib.Decide.{ℕ-discrete, decLt}
+use native.Mathlib.Decide.{ℕ-discrete}
 use lib.Dec.{eqb}
 use borrow.Author.Tests.{eq-eqb, ne-eqb, eqb-false}
-use Rattle.loops.specs.Chain.{past}
+use Rattle.loops.specs.ChainLaws.{past}
 use Rattle.kinds.specs.Limits.{noPivot}
 use Rattle.kinds.specs.Kinds.{GoodPivot}
 use Rattle.kinds.specs.declared.Label.{Label}
 use Rattle.journeys.specs.Tables.{Side, outs, ins, Tables, Entry, GoodTables}
 use Rattle.tables.specs.File.{stopsOf, setOf, ownerOf, countOf, startOf, endOf, labelsOf, labelAt, pivotOf, tablesOf}
-use Rattle.tables.specs.FileLaws.{end-within, set-within}
+use Rattle.tables.specs.Read.{ReadsAs}
+use Rattle.tables.specs.FileLaws.{set-only, set-within}
 use Rattle.tables.specs.Good.{After, higher, later, LabelGood, Room, GoodFile}
 use Rattle.tables.specs.GoodLaws.{after-trans}
 
@@ -33,18 +34,35 @@ pivot-is p w e =
     let f = z .1 in
     (cc, eqb-false p noPivot (z .0))
 
+pub pivot-one : (p q : ℕ) → pivotOf p ≡ pivotOf q → p ≡ q
+pivot-one p q e = go (ℕ-discrete p noPivot) (ℕ-discrete q noPivot)
+  where
+    go : Dec (p ≡ noPivot) → Dec (q ≡ noPivot) → p ≡ q
+    go (yes h) (yes k) = h ∙ sym k
+    go (yes h) (no k) =
+        let x = pivot-none p h in
+        let y = pivot-some q k in
+        let z : _≡_ {A = ℕ} 0 1 = cc in
+        absurd (omega arith)
+    go (no h) d = sym (pivot-is q p (sym e ∙ pivot-some p h) .0)
+
 -- ---- what is read
 
--- label l is what the tables say at number k
-pub record Says (T : Tables) (k : ℕ) (l : Label) : Type 0 where
-  pub hub : T .hub k ≡ l .hub
-  pub dep : T .dep k ≡ l .dep
-  pub arr : T .arr k ≡ l .arr
-  pub pivot : T .pivot k ≡ pivotOf (l .pivot)
+-- labels that say the same are the same
+pub same-label : (l m : Label) → l .hub ≡ m .hub → l .dep ≡ m .dep → l .arr ≡ m .arr → l .pivot ≡ m .pivot → l ≡ m
+same-label l m h d a p = go h d a p
+  where
+    go : {h d a p h′ d′ a′ p′ : ℕ} → h ≡ h′ → d ≡ d′ → a ≡ a′ → p ≡ p′ →
+        _≡_ {A = Label} (record { hub = h; dep = d; arr = a; pivot = p }) (record { hub = h′; dep = d′; arr = a′; pivot = p′ })
+    go e f g q = cc
 
-pub says : (b : List ℕ) (k : ℕ) → Says (tablesOf b) k (labelAt b k)
+pub reads : (b : List ℕ) (k : ℕ) → ReadsAs (tablesOf b) k (labelAt b k)
 unfolding tablesOf
-says b k = record { hub = refl; dep = refl; arr = refl; pivot = refl }
+reads b k = record { hub = refl; dep = refl; arr = refl; pivot = refl }
+
+-- label k was read as l
+pub read-as : (b : List ℕ) (k : ℕ) {l : Label} → l ≡ labelAt b k → ReadsAs (tablesOf b) k l
+read-as b k e = subst (ReadsAs (tablesOf b) k) (sym e) (reads b k)
 
 pub tables-stops : (b : List ℕ) → tablesOf b .stops ≡ stopsOf b
 unfolding tablesOf
@@ -83,18 +101,14 @@ set-one ins outs s s′ e = absurd (omega arith)
 pub room-entry : {b : List ℕ} {n : ℕ} → Room b n → (side : Side) (s k : ℕ) → s < n → tablesOf b .start side s ≤ k → k < tablesOf b .end side s →
     Entry (tablesOf b) side k s (labelAt b k .hub) (labelAt b k .dep) (labelAt b k .arr) (pivotOf (labelAt b k .pivot))
 unfolding tablesOf
-room-entry g side s k lt low high = record { owner = omega (arith, g .contents .stops); low = low; high = high; hub = refl; dep = refl; arr = refl; pivot = refl }
+room-entry g side s k lt low high =
+    record { owner = omega (arith, g .contents .stops); low = low; high = high; hub = refl; dep = refl; arr = refl; pivot = refl }
 
 -- a label stands in one set only
-pub entry-only : (b : List ℕ) {side side′ : Side} {k s h d a s′ h′ d′ a′ : ℕ} {p p′ : Option ℕ} → Entry (tablesOf b) side k s h d a p → Entry (tablesOf b) side′ k s′ h′ d′ a′ p′ →
-    (side ≡ side′) × (s ≡ s′)
+pub entry-only : (b : List ℕ) {side side′ : Side} {k s h d a s′ h′ d′ a′ : ℕ} {p p′ : Option ℕ} →
+    Entry (tablesOf b) side k s h d a p → Entry (tablesOf b) side′ k s′ h′ d′ a′ p′ → (side ≡ side′) × (s ≡ s′)
 unfolding tablesOf
-entry-only b {side} {side′} {k} {s} {s′ = s′} x y = set-one side side′ s s′ (go (decLt (setOf side s) (setOf side′ s′)) (decLt (setOf side′ s′) (setOf side s)))
-  where
-    go : Dec (setOf side s < setOf side′ s′) → Dec (setOf side′ s′ < setOf side s) → setOf side s ≡ setOf side′ s′
-    go (yes lt) d = absurd (omega (arith, end-within b _ _ lt, x .high, y .low))
-    go (no ge) (yes lt) = absurd (omega (arith, end-within b _ _ lt, y .high, x .low))
-    go (no ge) (no le) = omega arith
+entry-only b {side} {side′} {k} {s} {s′ = s′} x y = set-one side side′ s s′ (set-only b (x .low) (x .high) (y .low) (y .high))
 
 module _ {b : List ℕ} {n : ℕ} (g : GoodFile b n) where
   pub good-stops : tablesOf b .stops ≡ n
@@ -128,14 +142,15 @@ module _ {b : List ℕ} {n : ℕ} (g : GoodFile b n) where
       (g .labels (setOf side s) (k - startOf b (setOf side s)) (owner-below x) (omega (arith, x .low, x .high)) .alone)
 
   -- of two in one set the later one comes after
-  pub entry-after : {side : Side} {i k s h d a f e c : ℕ} {p q : Option ℕ} → Entry (tablesOf b) side i s h d a p → Entry (tablesOf b) side k s f e c q → i < k →
-      After (labelAt b i) (labelAt b k)
+  pub entry-after : {side : Side} {i k s h d a f e c : ℕ} {p q : Option ℕ} →
+      Entry (tablesOf b) side i s h d a p → Entry (tablesOf b) side k s f e c q → i < k → After (labelAt b i) (labelAt b k)
   unfolding tablesOf
   entry-after {side} {i} {k} {s} x y lt =
       let u : startOf b (setOf side s) + (i - startOf b (setOf side s)) ≡ i = omega (arith, x .low) in
       let v : startOf b (setOf side s) + (k - startOf b (setOf side s)) ≡ k = omega (arith, y .low) in
       subst₂ (λ (m o : ℕ). After (labelAt b m) (labelAt b o)) u v
-      (rises (setOf side s) (i - startOf b (setOf side s)) (k - startOf b (setOf side s)) (owner-below x) (omega (arith, x .low)) (omega (arith, y .low, y .high)))
+      (rises (setOf side s) (i - startOf b (setOf side s)) (k - startOf b (setOf side s)) (owner-below x) (omega (arith, x .low))
+      (omega (arith, y .low, y .high)))
 
   pivot-good : {side : Side} {k s h d a w : ℕ} → Entry (tablesOf b) side k s h d a (some w) → GoodPivot n s h w
   unfolding tablesOf

@@ -11,13 +11,7 @@ use Rattle.kinds.specs.Limits.{noPivot}
 use Rattle.kinds.specs.declared.Label.{Label}
 use Rattle.tables.specs.Format.{formatMark, headerBytes, noPivotByte}
 use Rattle.tables.specs.File.{twoAt, stopsOf, countOf, startOf, placeOf, pivotRead, labelAt}
-use Rattle.tables.specs.Write.{putTwo, putHeader, putCount, pivotByte, putLabel}
-
--- c is b but for the bytes from lo up to, not including, hi
-pub record Outside (b c : List ℕ) (lo hi : ℕ) : Type 0 where
-  pub long : length c ≡ length b
-  pub before : (j : ℕ) → j < lo → getD c j 0 ≡ getD b j 0
-  pub behind : (j : ℕ) → hi ≤ j → getD c j 0 ≡ getD b j 0
+use Rattle.tables.specs.Write.{putTwo, putHeader, putCount, pivotByte, putHub, putDep, putArr, putPivot, putLabel, Outside, Writable}
 
 pub outside-both : {a b c : List ℕ} {lo₁ hi₁ lo₂ hi₂ : ℕ} (lo hi : ℕ) → lo ≤ lo₁ → lo ≤ lo₂ → hi₁ ≤ hi → hi₂ ≤ hi →
     Outside a b lo₁ hi₁ → Outside b c lo₂ hi₂ → Outside a c lo hi
@@ -68,7 +62,8 @@ module _ {b c : List ℕ} {lo hi : ℕ} (o : Outside b c lo hi) where
 module _ (b : List ℕ) (i x : ℕ) where
   pub outside-two : Outside b (putTwo b i x) i (i + 2)
   outside-two =
-      outside-both i (i + 2) (omega arith) (omega arith) (omega arith) (omega arith) (outside-set b i (x % 256)) (outside-set (set b i (x % 256)) (i + 1) (x / 256))
+      outside-both i (i + 2) (omega arith) (omega arith) (omega arith) (omega arith) (outside-set b i (x % 256))
+      (outside-set (set b i (x % 256)) (i + 1) (x / 256))
 
   module _ (fits : i + 1 < length b) where
     two-low : getD (putTwo b i x) i 0 ≡ x % 256
@@ -103,11 +98,6 @@ module _ (b : List ℕ) (s x : ℕ) where
 
 -- ---- a label
 
--- a label that six bytes can hold
-pub record Writable (l : Label) : Type 0 where
-  pub hub : l .hub < 256
-  pub pivot : (l .pivot ≡ noPivot) ⊎ (l .pivot < noPivotByte)
-
 pivot-back : (p : ℕ) → (p ≡ noPivot) ⊎ (p < noPivotByte) → pivotRead (pivotByte p) ≡ p
 pivot-back p (inl e) = rw (eq-eqb p noPivot e) (sym e)
 pivot-back p (inr lt) =
@@ -122,66 +112,55 @@ label-is c n k l e h d a p = rw (e, h, d, a, p)
 two-before : {b c : List ℕ} {lo hi : ℕ} → Outside b c lo hi → (i : ℕ) → i + 2 ≤ lo → twoAt c i ≡ twoAt b i
 two-before o i le = omega (arith, o .before i (omega arith), o .before (i + 1) (omega arith))
 
--- six bytes from p on: one, two, two and one
 module _ (b : List ℕ) (p h d a q : ℕ) where
-  one : List ℕ
-  one = set b p h
+  long-three : length (putDep b p h d) ≡ length b
+  unfolding putHub putDep
+  long-three = outside-two (putHub b p h) (p + 1) d .long ∙ length-set b p h
 
-  three : List ℕ
-  three = putTwo one (p + 1) d
+  long-five : length (putArr b p h d a) ≡ length b
+  unfolding putArr
+  long-five = outside-two (putDep b p h d) (p + 3) a .long ∙ long-three
 
-  five : List ℕ
-  five = putTwo three (p + 3) a
-
-  six : List ℕ
-  six = set five (p + 5) q
-
-  long-three : length three ≡ length b
-  unfolding one three
-  long-three = outside-two one (p + 1) d .long ∙ length-set b p h
-
-  long-five : length five ≡ length b
-  unfolding five
-  long-five = outside-two three (p + 3) a .long ∙ long-three
-
-  outside-six : Outside b six p (p + 6)
-  unfolding one three five six
+  outside-six : Outside b (putPivot b p h d a q) p (p + 6)
+  unfolding putHub putDep putArr putPivot
   outside-six =
       outside-both p (p + 6) (omega arith) (omega arith) (omega arith) (omega arith)
       (outside-both p (p + 5) (omega arith) (omega arith) (omega arith) (omega arith)
-      (outside-both p (p + 3) (omega arith) (omega arith) (omega arith) (omega arith) (outside-set b p h) (outside-two one (p + 1) d))
-      (outside-two three (p + 3) a)) (outside-set five (p + 5) q)
+      (outside-both p (p + 3) (omega arith) (omega arith) (omega arith) (omega arith) (outside-set b p h) (outside-two (putHub b p h) (p + 1) d))
+      (outside-two (putDep b p h d) (p + 3) a)) (outside-set (putArr b p h d a) (p + 5) q)
 
   module _ (fits : p + 6 ≤ length b) where
-    six-hub : getD six p 0 ≡ h
-    unfolding one three five six
+    six-hub : getD (putPivot b p h d a q) p 0 ≡ h
+    unfolding putHub putDep putArr putPivot
     six-hub =
-        outside-set five (p + 5) q .before p (omega arith) ∙ outside-two three (p + 3) a .before p (omega arith) ∙ outside-two one (p + 1) d .before p (omega arith) ∙
+        outside-set (putArr b p h d a) (p + 5) q .before p (omega arith) ∙ outside-two (putDep b p h d) (p + 3) a .before p (omega arith) ∙
+        outside-two (putHub b p h) (p + 1) d .before p (omega arith) ∙
         getD-set-same b p h 0 (omega arith)
 
-    six-dep : twoAt six (p + 1) ≡ d
-    unfolding one three five six
+    six-dep : twoAt (putPivot b p h d a q) (p + 1) ≡ d
+    unfolding putHub putDep putArr putPivot
     six-dep =
-        two-before (outside-set five (p + 5) q) (p + 1) (omega arith) ∙ two-before (outside-two three (p + 3) a) (p + 1) (omega arith) ∙
-        two-back one (p + 1) d (omega (arith, length-set b p h))
+        two-before (outside-set (putArr b p h d a) (p + 5) q) (p + 1) (omega arith) ∙
+        two-before (outside-two (putDep b p h d) (p + 3) a) (p + 1) (omega arith) ∙
+        two-back (putHub b p h) (p + 1) d (omega (arith, length-set b p h))
 
-    six-arr : twoAt six (p + 3) ≡ a
-    unfolding one three five six
-    six-arr = two-before (outside-set five (p + 5) q) (p + 3) (omega arith) ∙ two-back three (p + 3) a (omega (arith, long-three))
+    six-arr : twoAt (putPivot b p h d a q) (p + 3) ≡ a
+    unfolding putHub putDep putArr putPivot
+    six-arr = two-before (outside-set (putArr b p h d a) (p + 5) q) (p + 3) (omega arith) ∙ two-back (putDep b p h d) (p + 3) a (omega (arith, long-three))
 
-    six-pivot : getD six (p + 5) 0 ≡ q
-    unfolding six
-    six-pivot = getD-set-same five (p + 5) q 0 (omega (arith, long-five))
+    six-pivot : getD (putPivot b p h d a q) (p + 5) 0 ≡ q
+    unfolding putPivot
+    six-pivot = getD-set-same (putArr b p h d a) (p + 5) q 0 (omega (arith, long-five))
 
 module _ (b : List ℕ) (n k : ℕ) (l : Label) where
   pub outside-label : Outside b (putLabel b n k l) (placeOf n k) (placeOf n (k + 1))
-  unfolding putLabel one three five six
+  unfolding putLabel putHub putDep putArr putPivot
   outside-label =
       let o = outside-six b (placeOf n k) (l .hub % 256) (l .dep) (l .arr) (pivotByte (l .pivot)) in
       record { long = o .long; before = o .before; behind = λ j le. o .behind j (omega arith) }
 
   pub label-back : stopsOf b ≡ n → placeOf n (k + 1) ≤ length b → Writable l → labelAt (putLabel b n k l) k ≡ l
-  unfolding putLabel one three five six
+  unfolding putLabel putHub putDep putArr putPivot
   label-back e fits w =
       let f : placeOf n k + 6 ≤ length b = omega arith in
       label-is (putLabel b n k l) n k l (outside-label .before 1 (omega arith) ∙ e)

@@ -5,10 +5,11 @@ use mathlib.Core.List.{List}
 use lib.ListN.{length, take}
 use Rattle.kinds.specs.Limits.{mostText, mostInput, runsRoom, codesRoom}
 use Rattle.reader.specs.Text.{readText, runsOf, codesOf}
-use Rattle.ground.specs.Ground.{groundRoom}
+use Rattle.timetable.specs.Numbers.{givenOf}
+use Rattle.both.specs.Both.{workRoom}
 use Rattle.desk.specs.Told.{Accepts}
-use Rattle.output.specs.declared.Sizes.{Sizes}
-use Rattle.output.specs.declared.Turn.{Turn}
+use Rattle.journey_lines.specs.declared.Sizes.{Sizes}
+use Rattle.journey_lines.specs.declared.Turn.{Turn}
 
 -- of each one byte more is read than there may be
 abbrev pub heldRoom : ℕ
@@ -16,11 +17,11 @@ heldRoom = mostText + 1 + (mostInput + 1)
 
 -- so much is in use, with a text and tables of so many bytes
 abbrev pub sizesOf : ℕ → ℕ → ℕ → ℕ → Sizes
-sizesOf stops count text tables = record { stops = stops; runs = count; text = text; tables = tables }
+sizesOf stops count text tables = record { given = givenOf stops count; text = text; tables = tables }
 
 -- the tables are accepted against the text that stands before the asks in the input; these are the numbers and the codes' places that the reader left of it
 pub record AcceptedFor (input runs codes tables : List ℕ) (z : Sizes) : Type 0 where
-  pub accepts : Accepts (take (z .text) input) tables runsRoom codesRoom groundRoom (record { stops = z .stops; runs = z .runs })
+  pub accepts : Accepts (take (z .text) input) tables runsRoom codesRoom workRoom (record { stops = z .given .stops; runs = z .given .runs })
   pub runs-are : runs ≡ runsOf (readText (take (z .text) input) runsRoom codesRoom) runsRoom
   pub codes-are : codes ≡ codesOf (readText (take (z .text) input) runsRoom codesRoom) codesRoom
   pub all : z .tables ≡ length tables

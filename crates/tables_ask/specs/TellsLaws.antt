@@ -6,34 +6,34 @@ use native.Mathlib.Omega.{arith}
 use lib.ListN.{take, replicate, length-replicate}
 use lib.Seq.{take-all}
 use Rattle.kinds.specs.Limits.{runsRoom, lastMinute}
-use Rattle.reader.specs.Text.{Outcome, runsOf}
+use Rattle.reader.specs.Text.{ReadOutcome, runsOf}
 use Rattle.timetable.specs.Numbers.{GoodNumbers}
-use Rattle.ground.specs.Ground.{groundRoom}
+use Rattle.both.specs.Both.{workRoom}
 use Rattle.verdict.specs.VerdictLaws.{accepted-tables}
 use Rattle.promises.specs.Calls.{Serves}
 use Rattle.promises.specs.AcceptedLaws.{accepted-serves}
 use Rattle.promises.specs.Printed.{LinesTell}
 use Rattle.promises.specs.PrintedLaws.{line-tells}
-use Rattle.output.specs.declared.Sizes.{Sizes}
-use Rattle.output.specs.declared.Stage.the-variants.{Asks}
-use Rattle.output.specs.Output.{Prints}
-use Rattle.output.specs.OutputLaws.{first-lines, lines-map}
+use Rattle.journey_lines.specs.declared.Sizes.{Sizes}
+use Rattle.journey_lines.specs.declared.Stage.the-variants.{Asks}
+use Rattle.journey_lines.specs.Output.{Prints}
+use Rattle.journey_lines.specs.OutputLaws.{first-lines, lines-map}
 use Rattle.tables_ask.specs.Held.{AcceptedFor, firstTurn}
 
 module _ {input runs codes tables : List ℕ} {z : Sizes} (A : AcceptedFor input runs codes tables z) where
   are : runs ≡ A .accepts .read .numbers
-  are = A .runs-are ∙ ap (λ (o : Outcome). runsOf o runsRoom) (A .accepts .whole)
+  are = A .runs-are ∙ ap (λ (o : ReadOutcome). runsOf o runsRoom) (A .accepts .whole)
 
-  good : GoodNumbers (z .stops) (z .runs) runs
-  good = rw (A .accepts .stops, A .accepts .runs, are) (accepted-tables tables _ _ _ groundRoom (A .accepts .accepted) refl .numbers)
+  good : GoodNumbers (z .given) runs
+  good = rw (A .accepts .stops, A .accepts .runs, are) (accepted-tables tables _ _ workRoom (A .accepts .accepted) refl .numbers)
 
-  serves : Serves (z .stops) (z .runs) runs (take (z .tables) tables)
+  serves : Serves (z .given) runs (take (z .tables) tables)
   serves =
-      subst (Serves (z .stops) (z .runs) runs) (sym (take-all (z .tables) tables (omega (arith, A .all))))
-      (rw (A .accepts .stops, A .accepts .runs, are) (accepted-serves tables _ _ _ groundRoom (A .accepts .accepted)))
+      subst (Serves (z .given) runs) (sym (take-all (z .tables) tables (omega (arith, A .all))))
+      (rw (A .accepts .stops, A .accepts .runs, are) (accepted-serves tables _ _ workRoom (A .accepts .accepted)))
 
   pub answers-tell : (list xs : List ℕ) → Prints input runs codes tables list (Asks z (firstTurn (z .text))) xs →
-      LinesTell (take (z .text) input) codes (z .stops) (z .runs) runs input (z .text) xs
+      LinesTell (take (z .text) input) codes (z .given) runs input (z .text) xs
   answers-tell list xs P =
-      lines-map (λ i e l Q. line-tells (take (z .text) input) codes good serves groundRoom (omega arith) (replicate lastMinute 0)
+      lines-map (λ i e l Q. line-tells (take (z .text) input) codes good serves workRoom (omega arith) (replicate lastMinute 0)
       (omega (arith, length-replicate {A = ℕ} lastMinute 0)) input i e l Q) (first-lines P)

@@ -1,24 +1,24 @@
 // Answers ask lines from standard input by a tables file, once the check has accepted it against the timetable; else it says why not. What is said is
-// fixed in the crate `desk`, what the asks get in the crate `output`.
+// fixed in the crate `desk`, what the asks get in the crate `journey_lines`.
 use desk::Admitted;
 use files::FileRead;
+use journey_lines::Sizes;
+use journey_lines::Stage;
+use journey_lines::Turn;
 use kinds::Minute;
 use kinds::Refusal;
 use kinds::Run;
 use kinds::Stop;
 use kinds::Text;
 use libc::STDIN_FILENO;
-use libc::STDOUT_FILENO;
-use output::Sizes;
-use output::Stage;
-use output::Turn;
 use sending::Sent;
+use timetable::Given;
 ghost use mathlib.Core.Path.{_≡_};
 ghost use Prim.Native.Nat.{_+_, _≤_};
 ghost use lib.ListN.{length, take, replicate};
 ghost use Rattle.kinds.specs.Limits.{mostText, mostInput, lastMinute};
 ghost use Rattle.files.specs.Files.{ReadWithin};
-ghost use Rattle.output.specs.Steps.{Ready};
+ghost use Rattle.journey_lines.specs.Steps.{Ready};
 ghost use Rattle.sending.specs.Sent.{SentFrom};
 ghost use Rattle.tables_ask.specs.Held.{heldRoom, AcceptedFor, firstTurn};
 
@@ -52,7 +52,8 @@ fn read_asks(held: &mut [u8], n: usize) -> usize
 fn answer(input: &[u8], runs: &[u32], codes: &[u32], tables: &[u8], sizes: Sizes) -> Sent
     requires { ⌜ Ready (now input) (now runs) (now codes) (now tables) (replicate lastMinute 0) sizes (firstTurn (sizes .text)) ⌝ }
     requires { ⌜ AcceptedFor (now input) (now runs) (now codes) (now tables) sizes ⌝ }
-    ensures { λ r. ⌜ SentFrom (now (input .entry)) (now (runs .entry)) (now (codes .entry)) (now (tables .entry)) (replicate lastMinute 0) (Stage.Asks sizes (firstTurn (sizes .text))) r ⌝ }
+    ensures { λ r. ⌜ SentFrom (now (input .entry)) (now (runs .entry)) (now (codes .entry)) (now (tables .entry)) (replicate lastMinute 0)
+        (Stage.Asks sizes (firstTurn (sizes .text))) r ⌝ }
 {
     let mut list = [0u32; Minute::LAST as usize];
     let mut out = [0u8; printed::LINE_ROOM];
@@ -77,7 +78,7 @@ fn refuse_asks() {
     let mut out = [0u8; desk::TOLD_ROOM];
     let a = report::more_line(&mut out, 0, b"standard input", Text::INPUT_MOST as u32);
     let b = report::refusal_line(&mut out, a, Refusal::new(Refusal::OVER_LIMIT, 0));
-    io::write_all(STDOUT_FILENO, &out[..b]);
+    files::tell(&out, b);
 }
 
 // The check, and then the asks. The first n bytes of the room are the text.
@@ -86,7 +87,7 @@ fn serve(held: &mut [u8], n: usize, tables: &[u8])
 {
     let mut runs = [0u32; Run::ROOM];
     let mut codes = [0u32; Stop::CODES_ROOM];
-    let mut work = [0u16; ground::ROOM];
+    let mut work = [0u16; both::ROOM];
     let mut out = [0u8; desk::TOLD_ROOM];
     let admitted = desk::admit(
         &held[..n],
@@ -98,7 +99,7 @@ fn serve(held: &mut [u8], n: usize, tables: &[u8])
     );
     match admitted {
         Admitted::No(told) => {
-            io::write_all(STDOUT_FILENO, &out[..told]);
+            files::tell(&out, told);
         }
         Admitted::Yes(counts) => {
             let k = read_asks(held, n);
@@ -113,8 +114,10 @@ fn serve(held: &mut [u8], n: usize, tables: &[u8])
                 &codes,
                 tables,
                 Sizes {
-                    stops: counts.stops,
-                    runs: counts.runs,
+                    given: Given {
+                        stops: counts.stops,
+                        runs: counts.runs,
+                    },
                     text: n,
                     tables: tables.len(),
                 },

@@ -44,11 +44,11 @@ fn main() {
     match made {
         Made::Tables(long, told) => {
             if save(&tables[..long]) {
-                io::write_all(STDOUT_FILENO, &out[..told]);
+                files::tell(&out, told);
             }
         }
         Made::No(told) => {
-            io::write_all(STDOUT_FILENO, &out[..told]);
+            files::tell(&out, told);
         }
     }
 }

@@ -1,7 +1,6 @@
 // Checks a tables file against a timetable, and says that it is accepted, or why not. What is said is fixed in the crate `desk`.
 use files::FileRead;
 use kinds::Text;
-use libc::STDOUT_FILENO;
 
 fn main() {
     if !files::has_words(os::arg_count(), 3, b"tables_check TIMETABLE TABLES") {
@@ -17,5 +16,5 @@ fn main() {
     };
     let mut out = [0u8; desk::TOLD_ROOM];
     let told = desk::checked(&text[..n], &tables[..m], &mut out);
-    io::write_all(STDOUT_FILENO, &out[..told]);
+    files::tell(&out, told);
 }

@@ -63,7 +63,7 @@ module _ {T : Tables} (G : GoodTables T) {u v d e : ℕ} {R : ℕ → ℕ} (othe
           }
 
   pub early-arrival : Early T u v d e
-  early-arrival = record { low = no-sooner; real = λ lt. go lt (a .real); most = omega (arith, a .own, r .most v) }
+  early-arrival = record { low = no-sooner; real = λ lt. go lt (a .real); most = omega (arith, a .own, r .most v stop) }
     where
       go : e < unreached → (e ≡ R v) ⊎ InBy T R v e → Within (Sketch T u v) d e
       go lt (inl q) = by-out lt q
@@ -83,7 +83,10 @@ module _ {T : Tables} (G : GoodTables T) {u x d a e : ℕ} where
   gap-on {v} {f} n E F = (to, back)
     where
       to : e ≤ f → NoGap T u x d a v
-      to h = no-gap-iff G .1 (record { here = λ q. absurd (n q); on = λ _ c b s k. wider (E .real (omega (arith, F .low s k, sketch-last G c b s))) (le-refl d) (omega (arith, F .low s k)) })
+      to h = no-gap-iff G .1 (record {
+        here = λ q. absurd (n q);
+        on = λ _ c b s k. wider (E .real (omega (arith, F .low s k, sketch-last G c b s))) (le-refl d) (omega (arith, F .low s k));
+      })
 
       back : NoGap T u x d a v → e ≤ f
       back g = go (decLt f unreached)

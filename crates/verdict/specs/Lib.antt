@@ -1,7 +1,7 @@
 pub mod Early
 pub mod EarlyLaws
-pub mod Steps
-pub mod StepLaws
+pub mod Minutes
+pub mod MinutesLaws
 pub mod Gaps
 pub mod GapLaws
 pub mod Verdict

@@ -53,12 +53,15 @@ isWordB s a e w = cond (eqb (e - a) (length w)) (sameB s a w 0 (length w)) false
 unfoldable pub isDigit : ℕ → Bool
 isDigit b = cond (ltb b digit0) false (leb b digit9)
 
+abbrev pub isDigitAt : List ℕ → ℕ → ℕ → Bool
+isDigitAt s a k = isDigit (getD s (a + k) 0)
+
 -- "Numbers are decimal, 1 to 5 digits, no leading zero except "0" itself": n bytes from a on have this form
 unfoldable pub isNumber : List ℕ → ℕ → ℕ → Bool
 isNumber s a n =
     cond (eqb n 0) false
     (cond (ltb 5 n) false
-    (cond (eqb (getD s a 0) digit0) (eqb n 1) (allB (λ k. isDigit (getD s (a + k) 0)) n)))
+    (cond (eqb (getD s a 0) digit0) (eqb n 1) (allB (isDigitAt s a) n)))
 
 -- their value
 unfoldable pub valueOf : List ℕ → ℕ → ℕ → ℕ
@@ -73,6 +76,9 @@ numberAt s a e =
     (Good (record { value = valueOf s a (seek space s a e - a); end = seek space s a e }))
     (Bad lineShape)
 
+abbrev pub isCodeByteAt : List ℕ → ℕ → ℕ → Bool
+isCodeByteAt s a k = isCodeByte (getD s (a + k) 0)
+
 -- "Codes 1 to 64 bytes, each byte 33 to 126": n bytes from a on are a code
 unfoldable pub isCode : List ℕ → ℕ → ℕ → Bool
-isCode s a n = cond (isCodeLength n) (allB (λ k. isCodeByte (getD s (a + k) 0)) n) false
+isCode s a n = cond (isCodeLength n) (allB (isCodeByteAt s a) n) false

@@ -1,15 +1,19 @@
 -- Laws of the words: the turns of the loops.
 use Prim.Native.Nat.{ℕ, zero, suc, _+_, _-_, _≤_, _<_}
-use mathlib.Core.Path.{_≡_, ap}
+use mathlib.Core.Path.{_≡_, ap, _∙_}
 use mathlib.Core.List.{List}
 use mathlib.Core.Bool.{Bool, true, false, cond}
 use native.Mathlib.Omega.{arith}
+use native.Mathlib.Nat.{add-zero}
 use lib.ListN.{length, getD}
 use lib.Dec.{ltb, eqb}
 use borrow.Author.Tests.{eq-eqb, ne-eqb, ltb-false}
-use Rattle.loops.specs.Chain.{past}
+use Rattle.loops.specs.ChainLaws.{past, stays}
+use Rattle.kinds.specs.Limits.{mostCode}
+use Rattle.kinds.specs.Kinds.{isCodeLength}
+use Rattle.kinds.specs.KindsLaws.{code-most}
 use Rattle.kinds.specs.Refusals.{lineShape}
-use Rattle.words.specs.Words.{space, seekIn, seek, beginsB, isNumber, numberAt}
+use Rattle.words.specs.Words.{space, seekIn, seek, beginsB, isNumber, numberAt, isCode}
 use Rattle.words.specs.declared.NumberRead.the-variants.{Bad}
 
 module _ (x : ℕ) (s : List ℕ) (k e : ℕ) where
@@ -30,6 +34,14 @@ module _ (x : ℕ) (s : List ℕ) (k e : ℕ) where
   seek-end le =
       let n : e - k ≡ 0 = omega arith in
       ap (λ (m : ℕ). seekIn x s k m) n
+
+-- a search passes over m bytes that are not x
+pub seek-past : (x : ℕ) (s : List ℕ) (a e m : ℕ) → a + m ≤ e → ((k : ℕ) → k < m → getD s (a + k) 0 ≡ x → ⊥) → seek x s a e ≡ seek x s (a + m) e
+seek-past x s a e zero l h = rw add-zero
+seek-past x s a e (suc m) l h =
+    let q : a + m + 1 ≡ a + suc m = omega arith in
+    seek-past x s a e m (omega arith) (λ k g. h k (omega arith)) ∙
+    seek-more x s (a + m) e (omega arith) (h m (omega arith)) ∙ ap (λ (i : ℕ). seek x s i e) q
 
 -- the place is in the stretch, or at its end
 seek-in : (x : ℕ) (s : List ℕ) (a n : ℕ) → (a ≤ seekIn x s a n) × (seekIn x s a n ≤ a + n)
@@ -60,3 +72,8 @@ pub begins-long : (s : List ℕ) (a e : ℕ) (w : List ℕ) → beginsB s a e w 
 unfolding beginsB
 begins-long s a e w h =
     ltb-false (e - a) (length w) (past (ltb (e - a) (length w)) h (λ x. let y : _≡_ {A = ℕ} 0 1 = cc in omega arith) .0)
+
+-- a code is no longer than a code may be
+pub code-short : (s : List ℕ) (a n : ℕ) → isCode s a n ≡ true → n ≤ mostCode
+unfolding isCode
+code-short s a n h = code-most n (stays (isCodeLength n) h (λ x. let y : _≡_ {A = ℕ} 0 1 = cc in omega arith) .0)

@@ -3,28 +3,16 @@ use native.Mathlib.Omega.{arith}
 use borrow.Author.Tests.{le-leb, lt-leb}
 use denote.Ref.{now}
 use Rattle.askline.specs.AskLine.{askLine}
-use Rattle.askline.specs.AskLineLaws.{ShapeWithin, shape-within}
+use Rattle.askline.specs.Shapes.{ShapeWithin}
+use Rattle.askline.specs.AskLineLaws.{shape-within}
 use borrow.Author.Needs.{needs}
 use Rattle.askline.proofs.ask_at.Statement.{statement}
 use Rattle.askline.proofs.ask_at.Tie as tie
-use Rattle.askline.proofs.ask_at.Reads as reads
-use Rattle.askline.proofs.ask_at.Lts as lts
-use Rattle.askline.proofs.shape_of.Reads as shape-of-reads
-use Rattle.lookup.proofs.scan.Reads as scan-reads
 
 within : (c : tie.After-known-told) → ShapeWithin (now (c .before .before .before .before .before .before .before .args .input)) (c .before .shape .given .0 .0)
 within c =
     shape-within _ _ _ _ (sym (c .before .before .before .shape-of .ensures) ∙ c .before .shape .given .1)
     (c .before .before .before .before .before .before .before .pre .1 .1)
-
-shape-of-requires : tie.Need-shape-of-requires
-shape-of-requires c κs = search needs
-
-enum-known-shape : tie.Need-enum-known-shape
-enum-known-shape c = search needs
-
-enum-told : tie.Need-enum-told
-enum-told c = search needs
 
 returns : tie.Need-returns
 unfolding askLine
@@ -62,7 +50,8 @@ returns-3 c =
     let f = b .before .before in
     let a = f .before in
     let k = a .before .before .before .before in
-    simp (sym (k .before .before .before .shape-of .ensures) ∙ k .before .shape .given .1, ← a .scan .ensures, lt-leb _ _ (f .if1 .left), ← b .scan2 .ensures, le-leb _ _ (c .if2 .taken))
+    let shaped = sym (k .before .before .before .shape-of .ensures) ∙ k .before .shape .given .1 in
+    simp (shaped, ← a .scan .ensures, lt-leb _ _ (f .if1 .left), ← b .scan2 .ensures, le-leb _ _ (c .if2 .taken))
 
 returns-4 : tie.Need-returns-4
 unfolding askLine
@@ -71,20 +60,12 @@ returns-4 c =
     let f = b .before .before in
     let a = f .before in
     let k = a .before .before .before .before in
-    simp (sym (k .before .before .before .shape-of .ensures) ∙ k .before .shape .given .1, ← a .scan .ensures, lt-leb _ _ (f .if1 .left), ← b .scan2 .ensures, lt-leb _ _ (c .if2 .left))
+    let shaped = sym (k .before .before .before .shape-of .ensures) ∙ k .before .shape .given .1 in
+    simp (shaped, ← a .scan .ensures, lt-leb _ _ (f .if1 .left), ← b .scan2 .ensures, lt-leb _ _ (c .if2 .left))
 
 pub ask-at-spec : {M : Type 1} → statement M
 ask-at-spec =
     tie.close
     (tie.spec
-    shape-of-requires
-    enum-known-shape
-    enum-told
-    returns
-    sub-scan
-    scan-requires
-    returns-2
-    sub-scan-2
-    scan-requires-2
-    returns-3
-    returns-4)
+    (λ c κs. search needs) (λ c. search needs) (λ c. search needs) returns sub-scan scan-requires returns-2 sub-scan-2 scan-requires-2
+    returns-3 returns-4)

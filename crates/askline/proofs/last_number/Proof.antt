@@ -4,9 +4,6 @@ use Rattle.askline.specs.AskLine.{lastNumber}
 use borrow.Author.Needs.{needs}
 use Rattle.askline.proofs.last_number.Statement.{statement}
 use Rattle.askline.proofs.last_number.Tie as tie
-use Rattle.askline.proofs.last_number.Reads as reads
-use Rattle.askline.proofs.last_number.Lts as lts
-use Rattle.words.proofs.number_at.Reads as number-at-reads
 
 number-at-requires : tie.Need-number-at-requires
 number-at-requires c κs = search needs

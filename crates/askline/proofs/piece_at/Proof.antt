@@ -3,9 +3,6 @@ use Rattle.askline.specs.Input.{pieceAt}
 use borrow.Author.Needs.{needs}
 use Rattle.askline.proofs.piece_at.Statement.{statement}
 use Rattle.askline.proofs.piece_at.Tie as tie
-use Rattle.askline.proofs.piece_at.Reads as reads
-use Rattle.askline.proofs.piece_at.Lts as lts
-use Rattle.words.proofs.seek.Reads as seek-reads
 
 returns : tie.Need-returns
 unfolding pieceAt

@@ -4,44 +4,16 @@ use Rattle.askline.specs.AskLine.{shapeAt}
 use borrow.Author.Needs.{needs}
 use Rattle.askline.proofs.shape_at.Statement.{statement}
 use Rattle.askline.proofs.shape_at.Tie as tie
-use Rattle.askline.proofs.shape_at.Reads as reads
-use Rattle.askline.proofs.shape_at.Lts as lts
-use Rattle.askline.proofs.minutes_at.Reads as minutes-at-reads
-use Rattle.words.proofs.seek.Reads as seek-reads
-
-seek-requires : tie.Need-seek-requires
-seek-requires c κs = search needs
 
 returns : tie.Need-returns
 unfolding shapeAt
 returns c = simp (← c .before .seek .ensures .is, le-leb _ _ (c .if1 .taken))
-
-add-seek : tie.Need-add-seek
-add-seek c = search needs
-
-seek-requires-2 : tie.Need-seek-requires-2
-seek-requires-2 c κs = search needs
 
 returns-2 : tie.Need-returns-2
 unfolding shapeAt
 returns-2 c =
     let f₁ = c .before .before in
     simp (← f₁ .before .seek .ensures .is, lt-leb _ _ (f₁ .if1 .left), ← c .before .seek2 .ensures .is, le-leb _ _ (c .if2 .taken))
-
-add-minutes-at : tie.Need-add-minutes-at
-add-minutes-at c = search needs
-
-minutes-at-requires : tie.Need-minutes-at-requires
-minutes-at-requires c κs = search needs
-
-enum-known-given : tie.Need-enum-known-given
-enum-known-given c = search needs
-
-add-t13 : tie.Need-add-t13
-add-t13 c = search needs
-
-enum-told : tie.Need-enum-told
-enum-told c = search needs
 
 returns-3 : tie.Need-returns-3
 unfolding shapeAt
@@ -65,15 +37,5 @@ pub shape-at-spec : {M : Type 1} → statement M
 shape-at-spec =
     tie.close
     (tie.spec
-    seek-requires
-    returns
-    add-seek
-    seek-requires-2
-    returns-2
-    add-minutes-at
-    minutes-at-requires
-    enum-known-given
-    add-t13
-    enum-told
-    returns-3
-    returns-4)
+    (λ c κs. search needs) returns (λ c. search needs) (λ c κs. search needs) returns-2 (λ c. search needs) (λ c κs. search needs)
+    (λ c. search needs) (λ c. search needs) (λ c. search needs) returns-3 returns-4)

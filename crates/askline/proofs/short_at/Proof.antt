@@ -4,19 +4,6 @@ use Rattle.askline.specs.AskLine.{shortAt}
 use borrow.Author.Needs.{needs}
 use Rattle.askline.proofs.short_at.Statement.{statement}
 use Rattle.askline.proofs.short_at.Tie as tie
-use Rattle.askline.proofs.short_at.Reads as reads
-use Rattle.askline.proofs.short_at.Lts as lts
-use Rattle.askline.proofs.last_number.Reads as last-number-reads
-use Rattle.words.proofs.number_at.Reads as number-at-reads
-
-number-at-requires : tie.Need-number-at-requires
-number-at-requires c κs = search needs
-
-enum-known-first : tie.Need-enum-known-first
-enum-known-first c = search needs
-
-enum-told : tie.Need-enum-told
-enum-told c = search needs
 
 returns : tie.Need-returns
 unfolding shortAt
@@ -27,18 +14,6 @@ unfolding shortAt
 returns-2 c =
     let k = c .before .before in
     simp (sym (k .before .before .before .number-at .ensures) ∙ k .before .first .given .1, le-leb _ _ (c .if1 .taken))
-
-add-last-number : tie.Need-add-last-number
-add-last-number c = search needs
-
-last-number-requires : tie.Need-last-number-requires
-last-number-requires c κs = search needs
-
-enum-known-t2 : tie.Need-enum-known-t2
-enum-known-t2 c = search needs
-
-enum-told-2 : tie.Need-enum-told-2
-enum-told-2 c = search needs
 
 returns-3 : tie.Need-returns-3
 unfolding shortAt
@@ -61,14 +36,5 @@ pub short-at-spec : {M : Type 1} → statement M
 short-at-spec =
     tie.close
     (tie.spec
-    number-at-requires
-    enum-known-first
-    enum-told
-    returns
-    returns-2
-    add-last-number
-    last-number-requires
-    enum-known-t2
-    enum-told-2
-    returns-3
-    returns-4)
+    (λ c κs. search needs) (λ c. search needs) (λ c. search needs) returns returns-2 (λ c. search needs) (λ c κs. search needs)
+    (λ c. search needs) (λ c. search needs) returns-3 returns-4)

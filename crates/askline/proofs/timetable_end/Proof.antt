@@ -2,13 +2,10 @@ use borrow.Author.Needs.{needs}
 use Prim.Native.Nat.{_-_}
 use mathlib.Core.Path.{sym, _∙_}
 use lib.ListN.{length}
-use Rattle.askline.specs.InputLaws.{Ending, ending-none, ending-out, ending-here, ending-more}
+use Rattle.askline.specs.Ending.{Ending}
+use Rattle.askline.specs.InputLaws.{ending-none, ending-out, ending-here, ending-more}
 use Rattle.askline.proofs.timetable_end.Statement.{statement}
 use Rattle.askline.proofs.timetable_end.Tie as tie
-use Rattle.askline.proofs.timetable_end.Reads as reads
-use Rattle.askline.proofs.timetable_end.Lts as lts
-use Rattle.askline.proofs.is_end.Reads as is-end-reads
-use Rattle.words.proofs.seek.Reads as seek-reads
 
 abbrev Inv-loop : tie.InvT-loop
 Inv-loop input at₀ at = Ending input at
@@ -19,31 +16,16 @@ abbrev μ-loop : tie.MeasureT-loop
 loop-holds : tie.Need-loop-holds Inv-loop μ-loop
 loop-holds c = ending-none _
 
-seek-requires : tie.Need-seek-requires Inv-loop μ-loop
-seek-requires c κs = search needs
-
 returns : tie.Need-returns Inv-loop μ-loop
 returns c =
     let k = c .before in
     sym (ending-out (k .before .loop .inv) _ (k .seek .ensures .is) (c .if1 .taken))
-
-is-end-requires : tie.Need-is-end-requires Inv-loop μ-loop
-is-end-requires c κs = search needs
-
-add-result : tie.Need-add-result Inv-loop μ-loop
-add-result c = search needs
 
 returns-2 : tie.Need-returns-2 Inv-loop μ-loop
 returns-2 c =
     let e = c .before .before in
     let k = e .before in
     sym (ending-here (k .before .loop .inv) _ (k .seek .ensures .is) (e .if1 .left) (sym (c .before .is-end .ensures) ∙ c .if2 .taken))
-
-add-at : tie.Need-add-at Inv-loop μ-loop
-add-at c = search needs
-
-loop-less : tie.Need-loop-less Inv-loop μ-loop
-loop-less c = search needs
 
 loop-again : tie.Need-loop-again Inv-loop μ-loop
 loop-again c =
@@ -55,14 +37,5 @@ pub timetable-end-spec : {M : Type 1} → statement M
 timetable-end-spec =
     tie.close
     (tie.spec
-    Inv-loop
-    μ-loop
-    loop-holds
-    seek-requires
-    returns
-    is-end-requires
-    add-result
-    returns-2
-    add-at
-    loop-less
-    loop-again)
+    Inv-loop μ-loop loop-holds (λ c κs. search needs) returns (λ c κs. search needs) (λ c. search needs) returns-2 (λ c. search needs)
+    (λ c. search needs) loop-again)

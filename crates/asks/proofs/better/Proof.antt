@@ -1,33 +1,6 @@
 use borrow.Author.Needs.{needs}
 use Rattle.asks.proofs.better.Statement.{statement}
 use Rattle.asks.proofs.better.Tie as tie
-use Rattle.asks.proofs.better.Reads as reads
-use Rattle.asks.proofs.better.Lts as lts
-use Rattle.asks.proofs.ahead.Reads as ahead-reads
-
-enum-told : tie.Need-enum-told
-enum-told c = search needs
-
-ahead-requires : tie.Need-ahead-requires
-ahead-requires c κs = search needs
-
-enum-told-2 : tie.Need-enum-told-2
-enum-told-2 c = search needs
-
-ahead-requires-2 : tie.Need-ahead-requires-2
-ahead-requires-2 c κs = search needs
-
-enum-told-3 : tie.Need-enum-told-3
-enum-told-3 c = search needs
-
-add-ahead : tie.Need-add-ahead
-add-ahead c = search needs
-
-add-ahead-2 : tie.Need-add-ahead-2
-add-ahead-2 c = search needs
-
-ahead-requires-3 : tie.Need-ahead-requires-3
-ahead-requires-3 c κs = search needs
 
 returns : tie.Need-returns
 returns c = rw (c .before .enum-told .given .1) (c .ahead .ensures)
@@ -42,14 +15,5 @@ pub better-spec : {M : Type 1} → statement M
 better-spec =
     tie.close
     (tie.spec
-    enum-told
-    ahead-requires
-    enum-told-2
-    ahead-requires-2
-    enum-told-3
-    add-ahead
-    add-ahead-2
-    ahead-requires-3
-    returns
-    returns-2
-    returns-3)
+    (λ c. search needs) (λ c κs. search needs) (λ c. search needs) (λ c κs. search needs) (λ c. search needs) (λ c. search needs)
+    (λ c. search needs) (λ c κs. search needs) returns returns-2 returns-3)

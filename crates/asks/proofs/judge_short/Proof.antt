@@ -4,41 +4,28 @@ use Rattle.asks.specs.Asks.{minutesRead}
 use borrow.Author.Needs.{needs}
 use Rattle.asks.proofs.judge_short.Statement.{statement}
 use Rattle.asks.proofs.judge_short.Tie as tie
-use Rattle.asks.proofs.judge_short.Reads as reads
-use Rattle.asks.proofs.judge_short.Lts as lts
-use Rattle.kinds.proofs.Minute.new.Reads as new-reads
-
-new-requires : tie.Need-new-requires
-new-requires c κs = search needs
-
-enum-known-first : tie.Need-enum-known-first
-enum-known-first c = search needs
-
-new-requires-2 : tie.Need-new-requires-2
-new-requires-2 c κs = search needs
-
-enum-known-second : tie.Need-enum-known-second
-enum-known-second c = search needs
 
 returns : tie.Need-returns
 unfolding minutesRead
 returns c =
     let s = c .before .before .before .before in
     let f = s .before .before .before .before in
-    rw (sym (f .before .before .new .ensures) ∙ f .first .given .1, sym (s .before .before .new2 .ensures) ∙ s .second .given .1, lt-ltb _ _ (c .if1 .taken)) refl
-
-enum-told : tie.Need-enum-told
-enum-told c = search needs
-
-enum-told-2 : tie.Need-enum-told-2
-enum-told-2 c = search needs
+    rw (
+      sym (f .before .before .new .ensures) ∙ f .first .given .1,
+      sym (s .before .before .new2 .ensures) ∙ s .second .given .1,
+      lt-ltb _ _ (c .if1 .taken),
+    ) refl
 
 returns-2 : tie.Need-returns-2
 unfolding minutesRead
 returns-2 c =
     let s = c .before .before .before .before in
     let f = s .before .before .before .before in
-    rw (sym (f .before .before .new .ensures) ∙ f .first .given .1, sym (s .before .before .new2 .ensures) ∙ s .second .given .1, le-ltb _ _ (c .if1 .left)) refl
+    rw (
+      sym (f .before .before .new .ensures) ∙ f .first .given .1,
+      sym (s .before .before .new2 .ensures) ∙ s .second .given .1,
+      le-ltb _ _ (c .if1 .left),
+    ) refl
 
 returns-3 : tie.Need-returns-3
 unfolding minutesRead
@@ -54,13 +41,5 @@ pub judge-short-spec : {M : Type 1} → statement M
 judge-short-spec =
     tie.close
     (tie.spec
-    new-requires
-    enum-known-first
-    new-requires-2
-    enum-known-second
-    returns
-    enum-told
-    enum-told-2
-    returns-2
-    returns-3
-    returns-4)
+    (λ c κs. search needs) (λ c. search needs) (λ c κs. search needs) (λ c. search needs) returns (λ c. search needs) (λ c. search needs)
+    returns-2 returns-3 returns-4)

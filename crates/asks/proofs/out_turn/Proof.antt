@@ -1,14 +1,9 @@
+use native.Mathlib.Omega.{arith}
+use Rattle.label_sets.specs.SetsLaws.{set-bounds}
 use Rattle.asks.specs.JoinLaws.{turn-own, turn-end, turn-met, turn-none}
 use borrow.Author.Needs.{needs}
 use Rattle.asks.proofs.out_turn.Statement.{statement}
 use Rattle.asks.proofs.out_turn.Tie as tie
-use Rattle.asks.proofs.out_turn.Reads as reads
-use Rattle.asks.proofs.out_turn.Lts as lts
-use Rattle.asks.proofs.take.Reads as take-reads
-use Rattle.tables.proofs.label_at.Reads as label-at-reads
-
-take-requires : tie.Need-take-requires
-take-requires c κs = search needs
 
 returns : tie.Need-returns
 returns c =
@@ -21,16 +16,16 @@ returns-2 c =
     turn-end (s .pre .0 .3) (s .pre .0 .4) (s .args .c) (s .args .best) (s .pre .1) (c .before .if1 .left) (c .if2 .taken)
 
 label-at-requires : tie.Need-label-at-requires
-label-at-requires c κs = search needs
-
-take-requires-2 : tie.Need-take-requires-2
-take-requires-2 c κs = search needs
+label-at-requires c κs =
+    let s = c .before .before .before .before .pre .0 .3 .in-set in
+    (s .file .room, omega (arith, set-bounds s .1))
 
 returns-3 : tie.Need-returns-3
 returns-3 c =
     let e = c .before .before .before .before in
     let s = e .before .before .before .before .before in
-    turn-met (s .pre .0 .3) (s .pre .0 .4) _ _ (s .pre .1) (e .before .before .if1 .left) (e .before .if2 .left) (e .label-at .ensures) (c .before .if3 .taken) (c .take2 .ensures)
+    turn-met (s .pre .0 .3) (s .pre .0 .4) _ _ (s .pre .1) (e .before .before .if1 .left) (e .label-at .ensures) (e .before .if2 .left) (c .before .if3 .taken)
+    (c .take2 .ensures)
 
 returns-4 : tie.Need-returns-4
 returns-4 c =
@@ -42,10 +37,4 @@ pub out-turn-spec : {M : Type 1} → statement M
 out-turn-spec =
     tie.close
     (tie.spec
-    take-requires
-    returns
-    returns-2
-    label-at-requires
-    take-requires-2
-    returns-3
-    returns-4)
+    (λ c κs. search needs) returns returns-2 label-at-requires (λ c κs. search needs) returns-3 returns-4)

@@ -1,71 +1,40 @@
-use mathlib.Core.Path.{ap, _∙_}
+use mathlib.Core.Path.{_≡_, sym, ap, _∙_}
+use mathlib.Core.List.{List}
 use native.Mathlib.Omega.{arith}
-use lib.ListN.{length-set}
-use Rattle.departures.specs.Departures.{bucketOf}
-use Rattle.departures.specs.Turns.{withRun}
+use lib.ListN.{getD, set, length-set}
+use Rattle.timetable.specs.SlotsLaws.{service-slots, read-ride, read-idle}
+use Rattle.departures.specs.Departures.{buckets, bucketOf}
+use Rattle.departures.specs.DeparturesLaws.{with-ride, with-none}
 use borrow.Author.Needs.{needs}
 use Rattle.departures.proofs.add.Statement.{statement}
 use Rattle.departures.proofs.add.Tie as tie
-use Rattle.departures.proofs.add.Reads as reads
-use Rattle.departures.proofs.add.Lts as lts
-use Rattle.departures.proofs.bucket_of.Reads as bucket-of-reads
-use Rattle.timetable.proofs.run_at.Reads as run-at-reads
-
-run-at-requires : tie.Need-run-at-requires
-run-at-requires c κs = search needs
-
-bucket-of-requires : tie.Need-bucket-of-requires
-bucket-of-requires c κs = search needs
-
-mul-index : tie.Need-mul-index
-mul-index c = omega (arith, c .bucket-of .ensures .1)
-
-slice-read-index : tie.Need-slice-read-index
-slice-read-index c =
-    let s = c .before .before .before .before .before in
-    omega (arith, c .before .bucket-of .ensures .1, s .pre .1 .1)
-
-add-index : tie.Need-add-index
-add-index c = search needs
-
-mul-index-2 : tie.Need-mul-index-2
-mul-index-2 c = search needs
-
-slice-write-index : tie.Need-slice-write-index
-slice-write-index c = search needs
-
-cast-index : tie.Need-cast-index
-cast-index c = search needs
-
-mul-index-3 : tie.Need-mul-index-3
-mul-index-3 c = omega (arith, c .before .bucket-of .ensures .1)
 
 slice-write-index-2 : tie.Need-slice-write-index-2
 slice-write-index-2 c =
-    let s = c .before .before .before .before .before in
+    let s = c .before .before .before .before .before .before .before .before .before in
     simp length-set (omega (arith, c .before .bucket-of .ensures .1, s .pre .1 .1))
 
-same-length : tie.Need-same-length
-same-length c = search needs
-
 returns : tie.Need-returns
-unfolding withRun
 returns c =
-    rw (c .before .bucket-of .ensures .0 ∙ ap (λ r. bucketOf (r .dep)) (c .before .before .run-at .ensures))
+    let b = c .before in
+    let r = b .before .before in
+    let a = r .before .before in
+    let s = a .before .before .before .before in
+    let R = read-ride (s .pre .0) _ (s .pre .1 .0) (sym (a .ride-at .ensures) ∙ r .read .given .1) in
+    rw (b .bucket-of .ensures .0 ∙ ap bucketOf (sym (R .leaves))) (sym (with-ride _ _ _ (R .forced)))
+
+returns-2 : tie.Need-returns-2
+returns-2 c =
+    let a = c .before .before in
+    let s = a .before .before .before .before in
+    rw (a .before .slots .ensures .0 ∙ sym (service-slots (s .args .given) (s .args .runs .now)))
+    (sym (with-none _ _ _ (read-idle (s .pre .0) _ (sym (a .ride-at .ensures) ∙ c .enum-told .given .1))))
 
 pub add-spec : {M : Type 1} → statement M
 add-spec =
     tie.close
     (tie.spec
-    run-at-requires
-    bucket-of-requires
-    mul-index
-    slice-read-index
-    add-index
-    mul-index-2
-    slice-write-index
-    cast-index
-    mul-index-3
-    slice-write-index-2
-    same-length
-    returns)
+    (λ c κs. search needs) (λ c κs. search needs) (λ c. search needs) (λ c κs. search needs) (λ c. search needs) (λ c. search needs)
+    (λ c. search needs) (λ c. search needs) (λ c. search needs) (λ c. search needs) (λ c. search needs) slice-write-index-2
+    (λ c. search needs) (λ c. search needs) (λ c. search needs) (λ c. search needs) (λ c. search needs) (λ c. search needs) returns
+    (λ c. search needs) returns-2)

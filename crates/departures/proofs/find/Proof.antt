@@ -1,32 +1,32 @@
-use borrow.Author.Needs.{needs}
-use Prim.Native.Nat.{_+_, _-_}
+use Prim.Native.Nat.{ℕ, _+_, _-_, _<_}
+use mathlib.Core.Path.{_≡_, sym, subst, _∙_}
 use native.Mathlib.Omega.{arith}
-use Rattle.timetable.specs.NumbersLaws.{good-run-at}
-use Rattle.departures.specs.DeparturesLaws.{WalkedTo, walk-begin, walk-end, walk-found, walk-on}
+use borrow.Author.Needs.{needs}
+use Rattle.loops.specs.First.{FirstAt}
+use Rattle.journeys.specs.Service.{RideAt}
+use Rattle.timetable.specs.Slots.{slotsOf, serviceOf}
+use Rattle.timetable.specs.SlotsLaws.{service-slots, slots-few}
+use Rattle.departures.specs.Turns.{WalkedTo}
+use Rattle.departures.specs.DeparturesLaws.{walk-begin, walk-end, walk-found, walk-on}
 use Rattle.departures.proofs.find.Statement.{statement}
 use Rattle.departures.proofs.find.Tie as tie
-use Rattle.departures.proofs.find.Reads as reads
-use Rattle.departures.proofs.find.Lts as lts
-use Rattle.departures.proofs.bucket_of.Reads as bucket-of-reads
-use Rattle.departures.proofs.is_run.Reads as is-run-reads
-use Rattle.timetable.proofs.run_at.Reads as run-at-reads
 
 abbrev Inv-loop : tie.InvT-loop
-Inv-loop runs count index from to dep arr i₀ i = WalkedTo runs from to dep arr count i
+Inv-loop given runs index from to dep arr none i₀ i = WalkedTo (serviceOf given runs) from to dep arr i
 
 abbrev μ-loop : tie.MeasureT-loop
-μ-loop runs count index from to dep arr i₀ i = count - i
+μ-loop given runs index from to dep arr none i₀ i = none - i
 
-bucket-of-requires : tie.Need-bucket-of-requires Inv-loop μ-loop
-bucket-of-requires c κs = search needs
+slots-requires : tie.Need-slots-requires Inv-loop μ-loop
+slots-requires c κs = c .before .before .pre .numbers .few-runs
 
 mul-i : tie.Need-mul-i Inv-loop μ-loop
 mul-i c = omega (arith, c .bucket-of .ensures .1)
 
 shared-slice-read-i : tie.Need-shared-slice-read-i Inv-loop μ-loop
 shared-slice-read-i c =
-    let s = c .before .before .before .before in
-    omega (arith, c .before .bucket-of .ensures .1, s .pre .1 .0)
+    let s = c .before .before .before .before .before in
+    omega (arith, c .before .bucket-of .ensures .1, s .pre .long)
 
 cast-i : tie.Need-cast-i Inv-loop μ-loop
 cast-i c = omega (arith, c .shared-slice-known3 .given (c .before .bucket-of .result))
@@ -34,72 +34,70 @@ cast-i c = omega (arith, c .shared-slice-known3 .given (c .before .bucket-of .re
 loop-holds : tie.Need-loop-holds Inv-loop μ-loop
 loop-holds c =
     let b = c .before in
-    let s = b .before .before .before in
-    walk-begin _ _ _ _ _ (b .bucket-of .ensures .0) (s .pre .1 .1 .first _ (b .bucket-of .ensures .1))
+    let s = b .before .before .before .before in
+    walk-begin _ _ _ _ _ (b .bucket-of .ensures .0) (s .pre .are .first _ (b .bucket-of .ensures .1))
 
-run-at-requires : tie.Need-run-at-requires Inv-loop μ-loop
-run-at-requires c κs = good-run-at (c .before .before .before .before .before .before .pre .0 .1) _ (search needs)
-
-is-run-requires : tie.Need-is-run-requires Inv-loop μ-loop
-is-run-requires c κs = search needs
+ride-is-requires : tie.Need-ride-is-requires Inv-loop μ-loop
+ride-is-requires c κs =
+    let a = c .before .before .before .before in
+    let s = a .before .before .before in
+    (s .pre .numbers, omega (arith, a .slots .ensures .0, c .loop-test .taken))
 
 returns : tie.Need-returns Inv-loop μ-loop
 returns c =
-    let r = c .before .before in
+    let r = c .before in
     let at = r .before .before in
-    walk-found _ _ _ _ _ (at .loop .inv) _ (r .before .loop-test .taken) (r .run-at .ensures) (c .before .is-run .ensures) (c .if1 .taken)
-
-add-i : tie.Need-add-i Inv-loop μ-loop
-add-i c = search needs
-
-mul-i-2 : tie.Need-mul-i-2 Inv-loop μ-loop
-mul-i-2 c = search needs
+    let a = at .before .before .before in
+    let s = a .before .before .before in
+    let n = service-slots (s .args .given) (s .args .runs .now) in
+    subst (λ (m : ℕ). FirstAt (λ i. RideAt (serviceOf (s .args .given) (s .args .runs .now)) i (s .args .from) (s .args .to) (s .args .dep)
+    (s .args .arr)) 0 m (at .loop .i)) n
+    (walk-found _ _ _ _ _ (at .loop .inv) (omega (arith, n, a .slots .ensures .0, r .before .loop-test .taken)) (r .ride-is .ensures) (c .if1 .taken))
 
 shared-slice-read-i-2 : tie.Need-shared-slice-read-i-2 Inv-loop μ-loop
-shared-slice-read-i-2 c = search needs
+shared-slice-read-i-2 c =
+    let l = c .before .before .before in
+    let a = l .before .before .before .before in
+    omega (arith, a .before .before .before .pre .long, a .slots .ensures .0, l .loop-test .taken)
 
 cast-i-2 : tie.Need-cast-i-2 Inv-loop μ-loop
-cast-i-2 c =
-    omega (arith, c .shared-slice-known4 .given (2880 + c .before .before .before .before .before .loop .i))
+cast-i-2 c = omega (arith, c .shared-slice-known4 .given (2880 + c .before .before .before .before .loop .i))
 
 loop-less : tie.Need-loop-less Inv-loop μ-loop
 loop-less c =
-    let e = c .before in
-    let r = e .before .before in
-    let at = r .before .before in
-    let s = at .before .before .before .before .before in
-    let N = s .pre .1 .1 .next (at .loop .i) (r .before .loop-test .taken) in
-    omega (arith, N .passed .low, r .before .loop-test .taken)
+    let l = c .before .before .before in
+    let at = l .before in
+    let a = at .before .before .before in
+    let s = a .before .before .before in
+    let n = service-slots (s .args .given) (s .args .runs .now) in
+    let h : at .loop .i < serviceOf (s .args .given) (s .args .runs .now) .slots = omega (arith, n, a .slots .ensures .0, l .loop-test .taken) in
+    let N = s .pre .are .next (at .loop .i) h (at .loop .inv .falls h .forced) in
+    omega (arith, N .passed .low, l .loop-test .taken)
 
 loop-again : tie.Need-loop-again Inv-loop μ-loop
 loop-again c =
-    let e = c .before in
-    let r = e .before .before in
-    let at = r .before .before in
-    let s = at .before .before .before .before .before in
-    walk-on _ _ _ _ _ (at .loop .inv) _ (r .before .loop-test .taken) (r .run-at .ensures) (e .before .is-run .ensures) (e .if1 .left) (s .pre .1 .1 .next (at .loop .i) (r .before .loop-test .taken))
+    let r = c .before .before in
+    let l = r .before in
+    let at = l .before in
+    let a = at .before .before .before in
+    let s = a .before .before .before in
+    let n = service-slots (s .args .given) (s .args .runs .now) in
+    let h : at .loop .i < serviceOf (s .args .given) (s .args .runs .now) .slots = omega (arith, n, a .slots .ensures .0, l .loop-test .taken) in
+    walk-on _ _ _ _ _ (at .loop .inv) h (r .ride-is .ensures) (c .before .if1 .left) (s .pre .are .next (at .loop .i) h (at .loop .inv .falls h .forced))
 
 returns-2 : tie.Need-returns-2 Inv-loop μ-loop
-returns-2 c = walk-end _ _ _ _ _ (c .before .loop .inv) (c .loop-test .left)
+returns-2 c =
+    let at = c .before in
+    let a = at .before .before .before in
+    let s = a .before .before .before in
+    let n = service-slots (s .args .given) (s .args .runs .now) in
+    subst (λ (m : ℕ). FirstAt (λ i. RideAt (serviceOf (s .args .given) (s .args .runs .now)) i (s .args .from) (s .args .to) (s .args .dep)
+    (s .args .arr)) 0 m (at .loop .i)) n
+    (walk-end _ _ _ _ _ (at .loop .inv) (omega (arith, n, a .slots .ensures .0, c .loop-test .left)))
 
 pub find-spec : {M : Type 1} → statement M
 find-spec =
     tie.close
     (tie.spec
-    Inv-loop
-    μ-loop
-    bucket-of-requires
-    mul-i
-    shared-slice-read-i
-    cast-i
-    loop-holds
-    run-at-requires
-    is-run-requires
-    returns
-    add-i
-    mul-i-2
-    shared-slice-read-i-2
-    cast-i-2
-    loop-less
-    loop-again
-    returns-2)
+    Inv-loop μ-loop slots-requires (λ c κs. search needs) mul-i shared-slice-read-i cast-i loop-holds ride-is-requires returns
+    (λ c. search needs) (λ c. search needs) shared-slice-read-i-2 cast-i-2 loop-less loop-again returns-2)

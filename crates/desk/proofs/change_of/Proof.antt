@@ -4,7 +4,7 @@ use Rattle.desk.proofs.change_of.Statement.{statement}
 use Rattle.desk.proofs.change_of.Tie as tie
 use Rattle.desk.proofs.change_of.Reads as reads
 use Rattle.desk.proofs.change_of.Lts as lts
-use Rattle.answers.proofs.code_at.Reads as code-at-reads
+use Rattle.lookup.proofs.code_at.Reads as code-at-reads
 
 returns : tie.Need-returns
 returns c = rw (pivot-none _ (c .if1 .taken))

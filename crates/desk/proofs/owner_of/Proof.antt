@@ -8,9 +8,6 @@ use Rattle.tables.specs.declared.Bounds.{Bounds}
 use Rattle.desk.specs.SpelledLaws.{outs-first, outs-follow, outs-last}
 use Rattle.desk.proofs.owner_of.Statement.{statement}
 use Rattle.desk.proofs.owner_of.Tie as tie
-use Rattle.desk.proofs.owner_of.Reads as reads
-use Rattle.desk.proofs.owner_of.Lts as lts
-use Rattle.tables.proofs.ins_of.Reads as ins-of-reads
 
 abbrev Inv-loop : tie.InvT-loop
 Inv-loop tables n k s₀ s = (s ≤ n) × (tablesOf tables .start outs s ≤ k)
@@ -21,25 +18,24 @@ abbrev μ-loop : tie.MeasureT-loop
 loop-holds : tie.Need-loop-holds Inv-loop μ-loop
 loop-holds c = (omega arith, omega (arith, outs-first (c .before .args .tables .now)))
 
-ins-of-requires : tie.Need-ins-of-requires Inv-loop μ-loop
-ins-of-requires c κs = search needs
-
 returns : tie.Need-returns Inv-loop μ-loop
 returns c =
     let t = c .before .before in
     (search needs, t .before .before .loop .inv .1, omega (arith, c .if1 .taken, ap (λ (x : Bounds). x .end) (t .ins-of .ensures)))
 
-add-s : tie.Need-add-s Inv-loop μ-loop
-add-s c = search needs
-
-loop-less : tie.Need-loop-less Inv-loop μ-loop
-loop-less c = search needs
-
 loop-again : tie.Need-loop-again Inv-loop μ-loop
 loop-again c =
     let t = c .before .before in
-    let l = t .before .before in
-    (omega arith, omega (arith, c .if1 .left, ap (λ (x : Bounds). x .end) (t .ins-of .ensures), outs-follow (l .before .before .args .tables .now) (l .loop .s)))
+    let l = t .before .before in (
+      omega arith,
+      omega (
+        arith,
+        c .if1 .left,
+        ap (λ (x : Bounds). x .end) (t .ins-of .ensures),
+        outs-follow (l .before .before .args .tables .now)
+            (l .loop .s),
+      ),
+    )
 
 returns-2 : tie.Need-returns-2 Inv-loop μ-loop
 returns-2 c =
@@ -52,12 +48,4 @@ pub owner-of-spec : {M : Type 1} → statement M
 owner-of-spec =
     tie.close
     (tie.spec
-    Inv-loop
-    μ-loop
-    loop-holds
-    ins-of-requires
-    returns
-    add-s
-    loop-less
-    loop-again
-    returns-2)
+    Inv-loop μ-loop loop-holds (λ c κs. search needs) returns (λ c. search needs) (λ c. search needs) loop-again returns-2)

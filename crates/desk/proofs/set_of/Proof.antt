@@ -21,14 +21,16 @@ returns c =
     let o = c .before .before in
     let w = o .before in
     let z = w .before .before in
-    label-out (z .pre .0) (w .owner-of .result) (z .args .k) (w .owner-of .ensures .0) (w .owner-of .ensures .1) (omega (arith, c .if1 .taken, ap (λ (x : Bounds). x .end) (o .outs-of .ensures)))
+    label-out (z .pre .0) (w .owner-of .result) (z .args .k) (w .owner-of .ensures .0) (w .owner-of .ensures .1)
+    (omega (arith, c .if1 .taken, ap (λ (x : Bounds). x .end) (o .outs-of .ensures)))
 
 returns-2 : tie.Need-returns-2
 returns-2 c =
     let o = c .before .before in
     let w = o .before in
     let z = w .before .before in
-    label-in (z .pre .0) (w .owner-of .result) (z .args .k) (w .owner-of .ensures .0) (omega (arith, c .if1 .left, ap (λ (x : Bounds). x .end) (o .outs-of .ensures))) (w .owner-of .ensures .2)
+    label-in (z .pre .0) (w .owner-of .result) (z .args .k) (w .owner-of .ensures .0)
+    (omega (arith, c .if1 .left, ap (λ (x : Bounds). x .end) (o .outs-of .ensures))) (w .owner-of .ensures .2)
 
 pub set-of-spec : {M : Type 1} → statement M
 set-of-spec = tie.close (tie.spec owner-of-requires outs-of-requires returns returns-2)

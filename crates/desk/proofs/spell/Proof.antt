@@ -5,21 +5,12 @@ use Rattle.desk.specs.Spelled.{a-bad, a-label, a-gap, nothing}
 use borrow.Author.Needs.{needs}
 use Rattle.desk.proofs.spell.Statement.{statement}
 use Rattle.desk.proofs.spell.Tie as tie
-use Rattle.desk.proofs.spell.Reads as reads
-use Rattle.desk.proofs.spell.Lts as lts
-use Rattle.desk.proofs.spell_bad.Reads as spell-bad-reads
-use Rattle.desk.proofs.spell_label.Reads as spell-label-reads
-use Rattle.desk.proofs.spell_run.Reads as spell-run-reads
-use Rattle.desk.proofs.spell_stop.Reads as spell-stop-reads
 
 spell-bad-requires : tie.Need-spell-bad-requires
 spell-bad-requires c κs =
     let t = c .before in
     let z = t .before .before .before .before .before .before .before in
     (omega (arith, z .pre .0), (z .pre .1 .names, z .pre .1 .bad (t .if1 .taken)))
-
-same-length : tie.Need-same-length
-same-length c = search needs
 
 returns : tie.Need-returns
 returns c =
@@ -32,9 +23,6 @@ spell-label-requires c κs =
     let t = c .before in
     let z = t .before .before .before .before .before .before .before .before .before in
     (omega (arith, z .pre .0), (z .pre .1 .names, (z .pre .1 .file (t .if2 .taken), z .pre .1 .label (t .if2 .taken))))
-
-same-length-2 : tie.Need-same-length-2
-same-length-2 c = search needs
 
 returns-2 : tie.Need-returns-2
 returns-2 c =
@@ -55,32 +43,24 @@ spell-stop-requires c κs =
     let z = t .before .before .before .before .before .before .before .before .before .before .before in
     (omega (arith, z .pre .0, p .spell-run .ensures .1, p .spell-run .kept .0), z .pre .1 .names .stop _ (z .pre .1 .stop (t .if3 .taken)))
 
-same-length-3 : tie.Need-same-length-3
-same-length-3 c = search needs
-
 returns-3 : tie.Need-returns-3
 returns-3 c =
     let k = c .before .before in
     let p = k .before .before .before .before in
-    let t = p .before .before in
-    ((_, a-gap (t .if3 .taken) refl, wrote-then (p .spell-run .ensures .0) (k .spell-stop .ensures .0)), omega (arith, p .spell-run .ensures .1, k .spell-stop .ensures .1))
+    let t = p .before .before in (
+      (_, a-gap (t .if3 .taken) refl, wrote-then (p .spell-run .ensures .0) (k .spell-stop .ensures .0)),
+      omega (arith, p .spell-run .ensures .1, k .spell-stop .ensures .1),
+    )
 
 returns-4 : tie.Need-returns-4
-returns-4 c =
-    ((_, nothing (c .before .before .before .before .if1 .left) (c .before .before .if2 .left) (c .if3 .left) refl, record { is = refl; end = omega arith }), omega arith)
+returns-4 c = (
+  (_, nothing (c .before .before .before .before .if1 .left) (c .before .before .if2 .left) (c .if3 .left) refl, record { is = refl; end = omega arith }),
+  omega arith,
+)
 
 pub spell-spec : {M : Type 1} → statement M
 spell-spec =
     tie.close
     (tie.spec
-    spell-bad-requires
-    same-length
-    returns
-    spell-label-requires
-    same-length-2
-    returns-2
-    spell-run-requires
-    spell-stop-requires
-    same-length-3
-    returns-3
-    returns-4)
+    spell-bad-requires (λ c. search needs) returns spell-label-requires (λ c. search needs) returns-2 spell-run-requires
+    spell-stop-requires (λ c. search needs) returns-3 returns-4)

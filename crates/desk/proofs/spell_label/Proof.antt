@@ -5,31 +5,12 @@ use Rattle.desk.specs.SpelledLaws.{label-from, label-to, label-pivot, ch
 use borrow.Author.Needs.{needs}
 use Rattle.desk.proofs.spell_label.Statement.{statement}
 use Rattle.desk.proofs.spell_label.Tie as tie
-use Rattle.desk.proofs.spell_label.Reads as reads
-use Rattle.desk.proofs.spell_label.Lts as lts
-use Rattle.answers.proofs.code_at.Reads as code-at-reads
-use Rattle.desk.proofs.change_of.Reads as change-of-reads
-use Rattle.desk.proofs.ends_of.Reads as ends-of-reads
-use Rattle.report.proofs.label_line.Reads as label-line-reads
-use Rattle.tables.proofs.label_at.Reads as label-at-reads
-
-ends-of-requires : tie.Need-ends-of-requires
-ends-of-requires c κs = search needs
-
-label-at-requires : tie.Need-label-at-requires
-label-at-requires c κs = search needs
-
-cast-code-at : tie.Need-cast-code-at
-cast-code-at c = search needs
 
 code-at-requires : tie.Need-code-at-requires
 code-at-requires c κs =
     let e = c .before .before in
     let z = e .before .before .before .before .before in
     z .pre .1 .0 .stop _ (label-from (z .pre .1 .1 .0) (e .ends-of .ensures)) .listed
-
-cast-code-at-2 : tie.Need-cast-code-at-2
-cast-code-at-2 c = search needs
 
 code-at-requires-2 : tie.Need-code-at-requires-2
 code-at-requires-2 c κs =
@@ -44,12 +25,6 @@ change-of-requires c κs =
     let z = e .before .before .before .before .before in
     rw (l .label-at .ensures) (⊎-elim (λ h. inl h) (λ h. inr (z .pre .1 .0 .stop _ h .listed)) (label-pivot (z .pre .1 .1 .0) _ (e .ends-of .ensures)))
 
-cast-label-line : tie.Need-cast-label-line
-cast-label-line c = search needs
-
-cast-label-line-2 : tie.Need-cast-label-line-2
-cast-label-line-2 c = search needs
-
 label-line-requires : tie.Need-label-line-requires
 label-line-requires c κs =
     let g = c .before .before .before in
@@ -62,12 +37,10 @@ label-line-requires c κs =
       (
         rw (ca .code-at .ensures) (z .pre .1 .0 .stop _ (label-from (z .pre .1 .1 .0) (e .ends-of .ensures)) .code),
         rw (cb .code-at2 .ensures) (z .pre .1 .0 .stop _ (label-to (z .pre .1 .1 .0) (e .ends-of .ensures)) .code),
-        rw (g .change-of .ensures, l .label-at .ensures) (change-in (z .pre .1 .0) (labelAt (z .args .tables .now) (z .args .k) .pivot) (label-pivot (z .pre .1 .1 .0) _ (e .ends-of .ensures))),
+        rw (g .change-of .ensures, l .label-at .ensures)
+            (change-in (z .pre .1 .0) (labelAt (z .args .tables .now) (z .args .k) .pivot) (label-pivot (z .pre .1 .1 .0) _ (e .ends-of .ensures))),
       ),
     )
-
-same-length : tie.Need-same-length
-same-length c = search needs
 
 returns : tie.Need-returns
 returns c =
@@ -84,15 +57,5 @@ pub spell-label-spec : {M : Type 1} → statement M
 spell-label-spec =
     tie.close
     (tie.spec
-    ends-of-requires
-    label-at-requires
-    cast-code-at
-    code-at-requires
-    cast-code-at-2
-    code-at-requires-2
-    change-of-requires
-    cast-label-line
-    cast-label-line-2
-    label-line-requires
-    same-length
-    returns)
+    (λ c κs. search needs) (λ c κs. search needs) (λ c. search needs) code-at-requires (λ c. search needs) code-at-requires-2
+    change-of-requires (λ c. search needs) (λ c. search needs) label-line-requires (λ c. search needs) returns)

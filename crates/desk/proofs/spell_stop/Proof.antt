@@ -3,7 +3,7 @@ use Rattle.desk.proofs.spell_stop.Statement.{statement}
 use Rattle.desk.proofs.spell_stop.Tie as tie
 use Rattle.desk.proofs.spell_stop.Reads as reads
 use Rattle.desk.proofs.spell_stop.Lts as lts
-use Rattle.answers.proofs.code_at.Reads as code-at-reads
+use Rattle.lookup.proofs.code_at.Reads as code-at-reads
 use Rattle.report.proofs.stop_line.Reads as stop-line-reads
 
 code-at-requires : tie.Need-code-at-requires

@@ -1,8 +1,6 @@
 use borrow.Author.Tests.{eq-eqb, ne-eqb}
 use Rattle.files.proofs.is_name.Statement.{statement}
 use Rattle.files.proofs.is_name.Tie as tie
-use Rattle.files.proofs.is_name.Reads as reads
-use Rattle.files.proofs.is_name.Lts as lts
 
 returns : tie.Need-returns
 returns c = simp (eq-eqb _ _ (c .if1 .taken))

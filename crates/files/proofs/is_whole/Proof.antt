@@ -1,8 +1,6 @@
 use borrow.Author.Tests.{not-true, not-false}
 use Rattle.files.proofs.is_whole.Statement.{statement}
 use Rattle.files.proofs.is_whole.Tie as tie
-use Rattle.files.proofs.is_whole.Reads as reads
-use Rattle.files.proofs.is_whole.Lts as lts
 
 returns : tie.Need-returns
 returns c = simp (not-true (c .before .args .written) (c .if1 .taken))

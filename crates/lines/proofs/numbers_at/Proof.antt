@@ -5,18 +5,6 @@ use Rattle.lines.specs.Lines.{numbersAt}
 use borrow.Author.Needs.{needs}
 use Rattle.lines.proofs.numbers_at.Statement.{statement}
 use Rattle.lines.proofs.numbers_at.Tie as tie
-use Rattle.lines.proofs.numbers_at.Reads as reads
-use Rattle.lines.proofs.numbers_at.Lts as lts
-use Rattle.words.proofs.number_at.Reads as number-at-reads
-
-number-at-requires : tie.Need-number-at-requires
-number-at-requires c κs = search needs
-
-enum-known-dep : tie.Need-enum-known-dep
-enum-known-dep c = search needs
-
-enum-told : tie.Need-enum-told
-enum-told c = search needs
 
 returns : tie.Need-returns
 unfolding numbersAt
@@ -30,18 +18,6 @@ returns-2 c =
     let k₁ = c .before .before in
     let e₁ = sym (k₁ .before .before .before .number-at .ensures) ∙ k₁ .before .dep .given .1 in
     simp (e₁, le-leb _ _ (c .if1 .taken))
-
-add-number-at : tie.Need-add-number-at
-add-number-at c = search needs
-
-number-at-requires-2 : tie.Need-number-at-requires-2
-number-at-requires-2 c κs = search needs
-
-enum-known-arr : tie.Need-enum-known-arr
-enum-known-arr c = search needs
-
-enum-told-2 : tie.Need-enum-told-2
-enum-told-2 c = search needs
 
 returns-3 : tie.Need-returns-3
 unfolding numbersAt
@@ -61,18 +37,6 @@ returns-4 c =
     let e₁ = sym (k₁ .before .before .before .number-at .ensures) ∙ k₁ .before .dep .given .1 in
     let e₂ = sym (k₂ .before .before .before .number-at2 .ensures) ∙ k₂ .before .arr .given .1 in
     simp (e₁, lt-leb _ _ (f₁ .if1 .left), e₂, le-leb _ _ (c .if2 .taken))
-
-add-number-at-2 : tie.Need-add-number-at-2
-add-number-at-2 c = search needs
-
-number-at-requires-3 : tie.Need-number-at-requires-3
-number-at-requires-3 c κs = search needs
-
-enum-known-trip : tie.Need-enum-known-trip
-enum-known-trip c = search needs
-
-enum-told-3 : tie.Need-enum-told-3
-enum-told-3 c = search needs
 
 returns-5 : tie.Need-returns-5
 unfolding numbersAt
@@ -116,21 +80,6 @@ pub numbers-at-spec : {M : Type 1} → statement M
 numbers-at-spec =
     tie.close
     (tie.spec
-    number-at-requires
-    enum-known-dep
-    enum-told
-    returns
-    returns-2
-    add-number-at
-    number-at-requires-2
-    enum-known-arr
-    enum-told-2
-    returns-3
-    returns-4
-    add-number-at-2
-    number-at-requires-3
-    enum-known-trip
-    enum-told-3
-    returns-5
-    returns-6
-    returns-7)
+    (λ c κs. search needs) (λ c. search needs) (λ c. search needs) returns returns-2 (λ c. search needs) (λ c κs. search needs)
+    (λ c. search needs) (λ c. search needs) returns-3 returns-4 (λ c. search needs) (λ c κs. search needs) (λ c. search needs)
+    (λ c. search needs) returns-5 returns-6 returns-7)

@@ -6,9 +6,6 @@ use Rattle.lookup.specs.Lookup.{hasCode}
 use borrow.Author.Needs.{needs}
 use Rattle.lookup.proofs.has_code.Statement.{statement}
 use Rattle.lookup.proofs.has_code.Tie as tie
-use Rattle.lookup.proofs.has_code.Reads as reads
-use Rattle.lookup.proofs.has_code.Lts as lts
-use Rattle.words.proofs.same.Reads as same-reads
 
 mul-length : tie.Need-mul-length
 mul-length c = search needs

@@ -6,9 +6,6 @@ use Rattle.lookup.specs.Index.{isEntry}
 use borrow.Author.Needs.{needs}
 use Rattle.lookup.proofs.is_entry.Statement.{statement}
 use Rattle.lookup.proofs.is_entry.Tie as tie
-use Rattle.lookup.proofs.is_entry.Reads as reads
-use Rattle.lookup.proofs.is_entry.Lts as lts
-use Rattle.lookup.proofs.has_code.Reads as has-code-reads
 
 sub-has-code : tie.Need-sub-has-code
 sub-has-code c = search needs

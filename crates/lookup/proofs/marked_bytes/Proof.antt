@@ -2,8 +2,6 @@ use borrow.Author.Tests.{lt-ltb, le-ltb}
 use Rattle.lookup.specs.Mark.{markedBytes}
 use Rattle.lookup.proofs.marked_bytes.Statement.{statement}
 use Rattle.lookup.proofs.marked_bytes.Tie as tie
-use Rattle.lookup.proofs.marked_bytes.Reads as reads
-use Rattle.lookup.proofs.marked_bytes.Lts as lts
 
 returns : tie.Need-returns
 unfolding markedBytes

@@ -4,8 +4,6 @@ use Rattle.lookup.specs.Index.{onwardOf}
 use borrow.Author.Needs.{needs}
 use Rattle.lookup.proofs.onward.Statement.{statement}
 use Rattle.lookup.proofs.onward.Tie as tie
-use Rattle.lookup.proofs.onward.Reads as reads
-use Rattle.lookup.proofs.onward.Lts as lts
 
 mul-result : tie.Need-mul-result
 mul-result c = search needs

@@ -2,12 +2,10 @@ use borrow.Author.Needs.{needs}
 use Prim.Native.Nat.{_-_}
 use mathlib.Core.Path.{sym, _∙_}
 use native.Mathlib.Omega.{arith}
-use Rattle.lookup.specs.LookupLaws.{placed-fewer, Scanning, scanning-all, scanning-here, scanning-next, scanning-end}
+use Rattle.lookup.specs.Scanning.{Scanning}
+use Rattle.lookup.specs.LookupLaws.{placed-fewer, scanning-all, scanning-here, scanning-next, scanning-end}
 use Rattle.lookup.proofs.scan.Statement.{statement}
 use Rattle.lookup.proofs.scan.Tie as tie
-use Rattle.lookup.proofs.scan.Reads as reads
-use Rattle.lookup.proofs.scan.Lts as lts
-use Rattle.lookup.proofs.has_code.Reads as has-code-reads
 
 abbrev Inv-loop : tie.InvT-loop
 Inv-loop s codes stops t from n k₀ k = Scanning s codes stops t from n k
@@ -17,9 +15,6 @@ abbrev μ-loop : tie.MeasureT-loop
 
 loop-holds : tie.Need-loop-holds Inv-loop μ-loop
 loop-holds c = scanning-all _ _ _ _ _ _
-
-sub-k : tie.Need-sub-k Inv-loop μ-loop
-sub-k c = search needs
 
 cast-has-code : tie.Need-cast-has-code Inv-loop μ-loop
 cast-has-code c =
@@ -35,9 +30,6 @@ returns : tie.Need-returns Inv-loop μ-loop
 returns c =
     scanning-here (c .before .before .before .loop .inv) (search needs) (sym (c .before .has-code .ensures) ∙ c .if1 .taken)
 
-loop-less : tie.Need-loop-less Inv-loop μ-loop
-loop-less c = search needs
-
 loop-again : tie.Need-loop-again Inv-loop μ-loop
 loop-again c =
     scanning-next (c .before .before .before .loop .inv) (search needs) (sym (c .before .has-code .ensures) ∙ c .if1 .left)
@@ -49,13 +41,5 @@ pub scan-spec : {M : Type 1} → statement M
 scan-spec =
     tie.close
     (tie.spec
-    Inv-loop
-    μ-loop
-    loop-holds
-    sub-k
-    cast-has-code
-    has-code-requires
-    returns
-    loop-less
-    loop-again
-    returns-2)
+    Inv-loop μ-loop loop-holds (λ c. search needs) cast-has-code has-code-requires returns (λ c. search needs)
+    loop-again returns-2)

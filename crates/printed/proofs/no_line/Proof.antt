@@ -3,26 +3,6 @@ use Rattle.printed.specs.WroteLaws.{wrote-then}
 use borrow.Author.Needs.{needs}
 use Rattle.printed.proofs.no_line.Statement.{statement}
 use Rattle.printed.proofs.no_line.Tie as tie
-use Rattle.printed.proofs.no_line.Reads as reads
-use Rattle.printed.proofs.no_line.Lts as lts
-use Rattle.printed.proofs.put_lf.Reads as put-lf-reads
-use Rattle.printed.proofs.put_number.Reads as put-number-reads
-use Rattle.printed.proofs.put_part.Reads as put-part-reads
-
-slice-aggregate-put-part : tie.Need-slice-aggregate-put-part
-slice-aggregate-put-part c = search needs
-
-put-part-requires : tie.Need-put-part-requires
-put-part-requires c κs = search needs
-
-put-number-requires : tie.Need-put-number-requires
-put-number-requires c κs = search needs
-
-put-lf-requires : tie.Need-put-lf-requires
-put-lf-requires c κs = search needs
-
-same-length : tie.Need-same-length
-same-length c = search needs
 
 returns : tie.Need-returns
 unfolding noLine
@@ -36,9 +16,5 @@ pub no-line-spec : {M : Type 1} → statement M
 no-line-spec =
     tie.close
     (tie.spec
-    slice-aggregate-put-part
-    put-part-requires
-    put-number-requires
-    put-lf-requires
-    same-length
+    (λ c. search needs) (λ c κs. search needs) (λ c κs. search needs) (λ c κs. search needs) (λ c. search needs)
     returns)

@@ -5,21 +5,9 @@ use Rattle.printed.specs.WroteLaws.{wrote-after}
 use borrow.Author.Needs.{needs}
 use Rattle.printed.proofs.put_number.Statement.{statement}
 use Rattle.printed.proofs.put_number.Tie as tie
-use Rattle.printed.proofs.put_number.Reads as reads
-use Rattle.printed.proofs.put_number.Lts as lts
-use Rattle.printed.proofs.put_decimal.Reads as put-decimal-reads
-
-slice-write-out : tie.Need-slice-write-out
-slice-write-out c = search needs
-
-add-put-decimal : tie.Need-add-put-decimal
-add-put-decimal c = search needs
 
 put-decimal-requires : tie.Need-put-decimal-requires
 put-decimal-requires c κs = simp length-set (omega (arith, decimal-length (c .before .before .args .n)))
-
-same-length : tie.Need-same-length
-same-length c = simp length-set at (c .before .before .put-decimal .kept .0)
 
 returns : tie.Need-returns
 returns c =
@@ -28,4 +16,6 @@ returns c =
 
 pub put-number-spec : {M : Type 1} → statement M
 put-number-spec =
-    tie.close (tie.spec slice-write-out add-put-decimal put-decimal-requires same-length returns)
+    tie.close
+    (tie.spec
+    (λ c. search needs) (λ c. search needs) put-decimal-requires (λ c. simp length-set at (c .before .before .put-decimal .kept .0)) returns)

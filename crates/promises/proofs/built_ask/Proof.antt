@@ -5,67 +5,29 @@ use Rattle.promises.specs.BuiltLaws.{wrote, asked-built, asked-refused, 
 use borrow.Author.Needs.{needs}
 use Rattle.promises.proofs.built_ask.Statement.{statement}
 use Rattle.promises.proofs.built_ask.Tie as tie
-use Rattle.promises.proofs.built_ask.Reads as reads
-use Rattle.promises.proofs.built_ask.Lts as lts
-use Rattle.asks.proofs.answered.Reads as answered-reads
-use Rattle.builder.proofs.build.Reads as build-reads
-use Rattle.loops.proofs.zero_u8.Reads as zero-u8-reads
-
-build-requires : tie.Need-build-requires
-build-requires c κs = search needs
-
-enum-known-answer : tie.Need-enum-known-answer
-enum-known-answer c = search needs
-
-cast-answered : tie.Need-cast-answered
-cast-answered c = search needs
 
 slice-reshare-prefix-answered : tie.Need-slice-reshare-prefix-answered
 slice-reshare-prefix-answered c =
     let b = c .before .before .before .before .before .before .before .build in
-    let e = wrote _ _ _ _ _ (b .ensures .0) (c .before .answer .given .1) in
+    let e = wrote _ _ _ _ (b .ensures .0) (c .before .answer .given .1) in
     omega (arith, e .fits, e .few, b .kept .1 .1 .1 .0)
 
 slice-aggregate-answered : tie.Need-slice-aggregate-answered
 slice-aggregate-answered c =
     let b = c .before .before .before .before .before .before .before .before .build in
-    let e = wrote _ _ _ _ _ (b .ensures .0) (c .before .before .answer .given .1) in
+    let e = wrote _ _ _ _ (b .ensures .0) (c .before .before .answer .given .1) in
     sym (length-take-le _ _ (omega (arith, e .fits, e .few, b .kept .1 .1 .1 .0)))
-
-answered-requires : tie.Need-answered-requires
-answered-requires c κs = search needs
-
-enum-known-asked : tie.Need-enum-known-asked
-enum-known-asked c = search needs
-
-enum-known-asked-2 : tie.Need-enum-known-asked-2
-enum-known-asked-2 c = search needs
-
-zero-u8-requires : tie.Need-zero-u8-requires
-zero-u8-requires c κs = search needs
-
-enum-known-answer-2 : tie.Need-enum-known-answer-2
-enum-known-answer-2 c = search needs
-
-same-length : tie.Need-same-length
-same-length c = search needs
-
-same-length-2 : tie.Need-same-length-2
-same-length-2 c = search needs
 
 returns : tie.Need-returns
 returns c =
     let a = c .before .before .before in
     let k = a .before .before .before in
     let s = k .before .before .before .before in
-    let b = s .before .before .build .ensures in
-    (asked-built _ _ _ _ _ (b .0) (λ i. omega (arith, s .slice-known3 .given i)) _ _ _ (k .answer .given .1) (c .before .asked .given .1) (a .answered .ensures) refl, b .1)
-
-same-length-3 : tie.Need-same-length-3
-same-length-3 c = search needs
-
-same-length-4 : tie.Need-same-length-4
-same-length-4 c = search needs
+    let b = s .before .before .build .ensures in (
+      asked-built _ _ _ _ (b .0) (λ i. omega (arith, s .slice-known3 .given i)) _ _ _ (k .answer .given .1) (c .before .asked .given .1)
+          (a .answered .ensures) refl,
+      b .1,
+    )
 
 returns-2 : tie.Need-returns-2
 returns-2 c =
@@ -74,43 +36,24 @@ returns-2 c =
     let k = a .before .before .before in
     let s = k .before .before .before .before in
     let b = s .before .before .build .ensures in (
-      asked-built _ _ _ _ _ (b .0) (λ i. omega (arith, s .slice-known3 .given i)) _ _ _ (k .answer .given .1) (z .before .before .before .asked2 .given .1) (a .answered .ensures) (z .zero-u8 .ensures),
+      asked-built _ _ _ _ (b .0) (λ i. omega (arith, s .slice-known3 .given i)) _ _ _ (k .answer .given .1) (z .before .before .before .asked2 .given .1)
+          (a .answered .ensures) (z .zero-u8 .ensures),
       b .1,
     )
-
-same-length-5 : tie.Need-same-length-5
-same-length-5 c = search needs
-
-same-length-6 : tie.Need-same-length-6
-same-length-6 c = search needs
 
 returns-3 : tie.Need-returns-3
 returns-3 c =
     let k = c .before in
     let s = k .before .before .before .before in
-    let b = s .before .before .build .ensures in
-    (asked-refused _ _ _ _ _ (b .0) (λ i. omega (arith, s .slice-known3 .given i)) _ _ _ (k .answer2 .given .1) (refused-zero (b .0) (k .answer2 .given .1)), b .1)
+    let b = s .before .before .build .ensures in (
+      asked-refused _ _ _ _ (b .0) (λ i. omega (arith, s .slice-known3 .given i)) _ _ _ (k .answer2 .given .1) (refused-zero (b .0) (k .answer2 .given .1)),
+      b .1,
+    )
 
 pub built-ask-spec : {M : Type 1} → statement M
 built-ask-spec =
     tie.close
     (tie.spec
-    build-requires
-    enum-known-answer
-    cast-answered
-    slice-reshare-prefix-answered
-    slice-aggregate-answered
-    answered-requires
-    enum-known-asked
-    enum-known-asked-2
-    zero-u8-requires
-    enum-known-answer-2
-    same-length
-    same-length-2
-    returns
-    same-length-3
-    same-length-4
-    returns-2
-    same-length-5
-    same-length-6
-    returns-3)
+    (λ c κs. search needs) (λ c. search needs) (λ c. search needs) slice-reshare-prefix-answered slice-aggregate-answered
+    (λ c κs. search needs) (λ c. search needs) (λ c. search needs) (λ c κs. search needs) (λ c. search needs) (λ c. search needs)
+    (λ c. search needs) returns (λ c. search needs) (λ c. search needs) returns-2 (λ c. search needs) (λ c. search needs) returns-3)

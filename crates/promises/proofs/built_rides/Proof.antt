@@ -9,60 +9,18 @@ use Rattle.promises.specs.BuiltLaws.{wrote, rides-built, rides-refused, 
 use borrow.Author.Needs.{needs}
 use Rattle.promises.proofs.built_rides.Statement.{statement}
 use Rattle.promises.proofs.built_rides.Tie as tie
-use Rattle.promises.proofs.built_rides.Reads as reads
-use Rattle.promises.proofs.built_rides.Lts as lts
-use Rattle.builder.proofs.build.Reads as build-reads
-use Rattle.loops.proofs.zero_u32.Reads as zero-u32-reads
-use Rattle.loops.proofs.zero_u8.Reads as zero-u8-reads
-use Rattle.rides.proofs.answered.Reads as answered-reads
-
-build-requires : tie.Need-build-requires
-build-requires c κs = search needs
-
-enum-known-answer : tie.Need-enum-known-answer
-enum-known-answer c = search needs
-
-cast-answered : tie.Need-cast-answered
-cast-answered c = search needs
 
 slice-reshare-prefix-answered : tie.Need-slice-reshare-prefix-answered
 slice-reshare-prefix-answered c =
     let b = c .before .before .before .before .before .before .before .build in
-    let e = wrote _ _ _ _ _ (b .ensures .0) (c .before .answer .given .1) in
+    let e = wrote _ _ _ _ (b .ensures .0) (c .before .answer .given .1) in
     omega (arith, e .fits, e .few, b .kept .1 .1 .1 .0)
 
 slice-aggregate-answered : tie.Need-slice-aggregate-answered
 slice-aggregate-answered c =
     let b = c .before .before .before .before .before .before .before .before .build in
-    let e = wrote _ _ _ _ _ (b .ensures .0) (c .before .before .answer .given .1) in
+    let e = wrote _ _ _ _ (b .ensures .0) (c .before .before .answer .given .1) in
     sym (length-take-le _ _ (omega (arith, e .fits, e .few, b .kept .1 .1 .1 .0)))
-
-answered-requires : tie.Need-answered-requires
-answered-requires c κs = search needs
-
-enum-known-asked : tie.Need-enum-known-asked
-enum-known-asked c = search needs
-
-enum-known-asked-2 : tie.Need-enum-known-asked-2
-enum-known-asked-2 c = search needs
-
-zero-u8-requires : tie.Need-zero-u8-requires
-zero-u8-requires c κs = search needs
-
-enum-known-answer-2 : tie.Need-enum-known-answer-2
-enum-known-answer-2 c = search needs
-
-zero-u32-requires : tie.Need-zero-u32-requires
-zero-u32-requires c κs = search needs
-
-same-length : tie.Need-same-length
-same-length c = search needs
-
-same-length-2 : tie.Need-same-length-2
-same-length-2 c = search needs
-
-same-length-3 : tie.Need-same-length-3
-same-length-3 c = search needs
 
 returns : tie.Need-returns
 returns c =
@@ -70,18 +28,10 @@ returns c =
     let k = a .before .before .before .before .before in
     let s = k .before .before .before .before in
     let b = s .before .before .build .ensures in (
-      rides-built _ _ _ _ _ (b .0) (λ i. omega (arith, s .slice-known4 .given i)) _ _ _ (k .answer .given .1) (ap length (b .1) ∙ length-zeros _) _ _ (c .before .asked .given .1) (a .answered .ensures .0) refl,
+      rides-built _ _ _ _ (b .0) (λ i. omega (arith, s .slice-known4 .given i)) _ _ _ (k .answer .given .1) (ap length (b .1) ∙ length-zeros _) _ _
+          (c .before .asked .given .1) (a .answered .ensures .0) refl,
       a .answered .ensures .1 ∙ ap zeros (b .1) ∙ zeros-again _,
     )
-
-same-length-4 : tie.Need-same-length-4
-same-length-4 c = search needs
-
-same-length-5 : tie.Need-same-length-5
-same-length-5 c = search needs
-
-same-length-6 : tie.Need-same-length-6
-same-length-6 c = search needs
 
 returns-2 : tie.Need-returns-2
 returns-2 c =
@@ -90,52 +40,28 @@ returns-2 c =
     let k = a .before .before .before .before .before in
     let s = k .before .before .before .before in
     let b = s .before .before .build .ensures in (
-      rides-built _ _ _ _ _ (b .0) (λ i. omega (arith, s .slice-known4 .given i)) _ _ _ (k .answer .given .1) (ap length (b .1) ∙ length-zeros _) _ _ (z .before .before .before .asked2 .given .1)
+      rides-built _ _ _ _ (b .0) (λ i. omega (arith, s .slice-known4 .given i)) _ _ _ (k .answer .given .1) (ap length (b .1) ∙ length-zeros _) _ _
+          (z .before .before .before .asked2 .given .1)
           (a .answered .ensures .0) (z .zero-u8 .ensures),
       a .answered .ensures .1 ∙ ap zeros (b .1) ∙ zeros-again _,
     )
-
-same-length-7 : tie.Need-same-length-7
-same-length-7 c = search needs
-
-same-length-8 : tie.Need-same-length-8
-same-length-8 c = search needs
-
-same-length-9 : tie.Need-same-length-9
-same-length-9 c = search needs
 
 returns-3 : tie.Need-returns-3
 returns-3 c =
     let z = c .before .before in
     let k = z .before .before .before in
     let s = k .before .before .before .before in
-    let b = s .before .before .build .ensures in
-    (rides-refused _ _ _ _ _ (b .0) (λ i. omega (arith, s .slice-known4 .given i)) _ _ _ (k .answer2 .given .1) (z .zero-u32 .ensures) (refused-zero (b .0) (k .answer2 .given .1)), b .1)
+    let b = s .before .before .build .ensures in (
+      rides-refused _ _ _ _ (b .0) (λ i. omega (arith, s .slice-known4 .given i)) _ _ _ (k .answer2 .given .1) (z .zero-u32 .ensures)
+          (refused-zero (b .0) (k .answer2 .given .1)),
+      b .1,
+    )
 
 pub built-rides-spec : {M : Type 1} → statement M
 built-rides-spec =
     tie.close
     (tie.spec
-    build-requires
-    enum-known-answer
-    cast-answered
-    slice-reshare-prefix-answered
-    slice-aggregate-answered
-    answered-requires
-    enum-known-asked
-    enum-known-asked-2
-    zero-u8-requires
-    enum-known-answer-2
-    zero-u32-requires
-    same-length
-    same-length-2
-    same-length-3
-    returns
-    same-length-4
-    same-length-5
-    same-length-6
-    returns-2
-    same-length-7
-    same-length-8
-    same-length-9
-    returns-3)
+    (λ c κs. search needs) (λ c. search needs) (λ c. search needs) slice-reshare-prefix-answered slice-aggregate-answered
+    (λ c κs. search needs) (λ c. search needs) (λ c. search needs) (λ c κs. search needs) (λ c. search needs) (λ c κs. search needs)
+    (λ c. search needs) (λ c. search needs) (λ c. search needs) returns (λ c. search needs) (λ c. search needs) (λ c. search needs)
+    returns-2 (λ c. search needs) (λ c. search needs) (λ c. search needs) returns-3)

@@ -6,44 +6,23 @@ use Rattle.lookup.specs.EnterLaws.{entered-none}
 use Rattle.reader.specs.Text.{readText}
 use Rattle.reader.specs.Reading.{linesOf}
 use borrow.Author.Needs.{needs}
-use borrow.Author.Needs.{needs}
 use Rattle.reader.proofs.read_text.Statement.{statement}
 use Rattle.reader.proofs.read_text.Tie as tie
-use Rattle.reader.proofs.read_text.Reads as reads
-use Rattle.reader.proofs.read_text.Lts as lts
-use Rattle.reader.proofs.read_lines.Reads as read-lines-reads
-use Rattle.reader.proofs.refuse.Reads as refuse-reads
-use Rattle.words.proofs.begins.Reads as begins-reads
-
-refuse-requires : tie.Need-refuse-requires
-refuse-requires c κs = search needs
 
 returns : tie.Need-returns
 unfolding readText
 returns c = rw (lt-ltb _ _ (c .before .if1 .taken)) (c .refuse .ensures, tt)
-
-refuse-requires-2 : tie.Need-refuse-requires-2
-refuse-requires-2 c κs = search needs
 
 returns-2 : tie.Need-returns-2
 unfolding readText
 returns-2 c =
     rw (le-ltb _ _ (c .before .before .if1 .left), lt-ltb _ _ (c .before .if2 .taken)) (c .refuse2 .ensures, tt)
 
-refuse-requires-3 : tie.Need-refuse-requires-3
-refuse-requires-3 c κs = search needs
-
 returns-3 : tie.Need-returns-3
 unfolding readText
 returns-3 c =
     let f₂ = c .before .before in
     rw (le-ltb _ _ (f₂ .before .if1 .left), le-ltb _ _ (f₂ .if2 .left), lt-ltb _ _ (c .before .if3 .taken)) (c .refuse3 .ensures, tt)
-
-begins-requires : tie.Need-begins-requires
-begins-requires c κs = search needs
-
-slice-aggregate-read-lines : tie.Need-slice-aggregate-read-lines
-slice-aggregate-read-lines c = search needs
 
 read-lines-requires : tie.Need-read-lines-requires
 read-lines-requires c κs =
@@ -63,12 +42,6 @@ read-lines-requires c κs =
       index = entered-none _ _;
     }
 
-same-length : tie.Need-same-length
-same-length c = search needs
-
-same-length-2 : tie.Need-same-length-2
-same-length-2 c = search needs
-
 returns-4 : tie.Need-returns-4
 unfolding readText linesOf
 returns-4 c =
@@ -77,10 +50,8 @@ returns-4 c =
     let f₃ = f₄ .before .before .before .before in
     let f₂ = f₃ .before in
     let f₁ = f₂ .before in
-    rw (le-ltb _ _ (f₁ .if1 .left), le-ltb _ _ (f₂ .if2 .left), le-ltb _ _ (f₃ .if3 .left), sym (f₄ .before .begins .ensures) ∙ f₄ .if4 .taken) (m .read-lines .ensures)
-
-refuse-requires-4 : tie.Need-refuse-requires-4
-refuse-requires-4 c κs = search needs
+    let begins = sym (f₄ .before .begins .ensures) ∙ f₄ .if4 .taken in
+    rw (le-ltb _ _ (f₁ .if1 .left), le-ltb _ _ (f₂ .if2 .left), le-ltb _ _ (f₃ .if3 .left), begins) (m .read-lines .ensures)
 
 returns-5 : tie.Need-returns-5
 unfolding readText
@@ -89,23 +60,13 @@ returns-5 c =
     let f₃ = f₄ .before .before .before .before in
     let f₂ = f₃ .before in
     let f₁ = f₂ .before in
-    rw (le-ltb _ _ (f₁ .if1 .left), le-ltb _ _ (f₂ .if2 .left), le-ltb _ _ (f₃ .if3 .left), sym (f₄ .before .begins .ensures) ∙ f₄ .if4 .left) (c .refuse4 .ensures, tt)
+    let begins = sym (f₄ .before .begins .ensures) ∙ f₄ .if4 .left in
+    rw (le-ltb _ _ (f₁ .if1 .left), le-ltb _ _ (f₂ .if2 .left), le-ltb _ _ (f₃ .if3 .left), begins) (c .refuse4 .ensures, tt)
 
 pub read-text-spec : {M : Type 1} → statement M
 read-text-spec =
     tie.close
     (tie.spec
-    refuse-requires
-    returns
-    refuse-requires-2
-    returns-2
-    refuse-requires-3
-    returns-3
-    begins-requires
-    slice-aggregate-read-lines
-    read-lines-requires
-    same-length
-    same-length-2
-    returns-4
-    refuse-requires-4
-    returns-5)
+    (λ c κs. search needs) returns (λ c κs. search needs) returns-2 (λ c κs. search needs) returns-3
+    (λ c κs. search needs) (λ c. search needs) read-lines-requires (λ c. search needs) (λ c. search needs)
+    returns-4 (λ c κs. search needs) returns-5)

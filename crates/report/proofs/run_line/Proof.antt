@@ -1,94 +1,27 @@
-use native.Mathlib.Omega.{arith}
 use Rattle.printed.specs.WroteLaws.{wrote-then}
-use Rattle.report.specs.Lines.{runLine}
+use Rattle.report.specs.Lines.{numberedRun}
 use borrow.Author.Needs.{needs}
 use Rattle.report.proofs.run_line.Statement.{statement}
 use Rattle.report.proofs.run_line.Tie as tie
-use Rattle.report.proofs.run_line.Reads as reads
-use Rattle.report.proofs.run_line.Lts as lts
-use Rattle.printed.proofs.put_code.Reads as put-code-reads
-use Rattle.printed.proofs.put_lf.Reads as put-lf-reads
-use Rattle.printed.proofs.put_number.Reads as put-number-reads
-use Rattle.report.proofs.put_counted.Reads as put-counted-reads
-use Rattle.report.proofs.put_named.Reads as put-named-reads
-
-slice-aggregate-put-counted : tie.Need-slice-aggregate-put-counted
-slice-aggregate-put-counted c = search needs
-
-put-counted-requires : tie.Need-put-counted-requires
-put-counted-requires c κs = search needs
-
-slice-aggregate-put-named : tie.Need-slice-aggregate-put-named
-slice-aggregate-put-named c = search needs
-
-put-named-requires : tie.Need-put-named-requires
-put-named-requires c κs = search needs
-
-put-code-requires : tie.Need-put-code-requires
-put-code-requires c κs = search needs
-
-put-number-requires : tie.Need-put-number-requires
-put-number-requires c κs = search needs
-
-put-number-requires-2 : tie.Need-put-number-requires-2
-put-number-requires-2 c κs = search needs
-
-put-number-requires-3 : tie.Need-put-number-requires-3
-put-number-requires-3 c κs = search needs
-
-put-lf-requires : tie.Need-put-lf-requires
-put-lf-requires c κs =
-    let p₆ = c .before .before .before in
-    let p₅ = p₆ .before .before .before .before in
-    let p₄ = p₅ .before .before .before .before in
-    let p₃ = p₄ .before .before .before .before in
-    let p₂ = p₃ .before .before .before .before in
-    let p₁ = p₂ .before .before .before .before .before in
-    let z = p₁ .before .before .before .before .before in
-    omega (
-      arith,
-      z .pre .0,
-      p₁ .put-counted .ensures .1,
-      p₁ .put-counted .kept .0,
-      p₂ .put-named .ensures .1,
-      p₂ .put-named .kept .0,
-      p₃ .put-code .ensures .1,
-      p₃ .put-code .kept .0,
-      p₄ .put-number .ensures .1,
-      p₄ .put-number .kept .0,
-      p₅ .put-number2 .ensures .1,
-      p₅ .put-number2 .kept .0,
-      p₆ .put-number3 .ensures .1,
-      p₆ .put-number3 .kept .0,
-    )
-
-same-length : tie.Need-same-length
-same-length c = search needs
 
 returns : tie.Need-returns
-unfolding runLine
+unfolding numberedRun
 returns c =
-    let p₇ = c .before .before in
-    let p₆ = p₇ .before .before .before .before in
-    let p₅ = p₆ .before .before .before .before in
+    let p₅ = c .before .before in
     let p₄ = p₅ .before .before .before .before in
     let p₃ = p₄ .before .before .before .before in
     let p₂ = p₃ .before .before .before .before in
-    let p₁ = p₂ .before .before .before .before .before in
-    (wrote-then (p₁ .put-counted .ensures .0) (wrote-then (p₂ .put-named .ensures .0) (wrote-then (p₃ .put-code .ensures .0) (wrote-then (p₄ .put-number .ensures .0) (wrote-then (p₅ .put-number2 .ensures .0) (wrote-then (p₆ .put-number3 .ensures .0) (p₇ .put-lf .ensures)))))), omega (arith, p₁ .put-counted .ensures .1, p₂ .put-named .ensures .1, p₃ .put-code .ensures .1, p₄ .put-number .ensures .1, p₅ .put-number2 .ensures .1, p₆ .put-number3 .ensures .1, p₇ .put-lf .ensures .end))
+    let p₁ = p₂ .before .before .before .before .before in (
+      wrote-then (p₁ .put-counted .ensures .0)
+          (wrote-then (p₂ .put-named .ensures .0)
+          (wrote-then (p₃ .put-code .ensures .0)
+          (wrote-then (p₄ .put-run-numbers .ensures .0) (p₅ .put-lf .ensures)))),
+      search needs,
+    )
 
 pub run-line-spec : {M : Type 1} → statement M
 run-line-spec =
     tie.close
     (tie.spec
-    slice-aggregate-put-counted
-    put-counted-requires
-    slice-aggregate-put-named
-    put-named-requires
-    put-code-requires
-    put-number-requires
-    put-number-requires-2
-    put-number-requires-3
-    put-lf-requires
-    same-length
-    returns)
+    (λ c. search needs) (λ c κs. search needs) (λ c. search needs) (λ c κs. search needs) (λ c κs. search needs)
+    (λ c κs. search needs) (λ c κs. search needs) (λ c. search needs) returns)

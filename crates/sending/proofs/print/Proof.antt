@@ -2,28 +2,23 @@ use Prim.Native.Nat.{_≤_}
 use mathlib.Core.Path.{_≡_, refl, ap, _∙_}
 use native.Mathlib.Omega.{arith}
 use lib.ListN.{length}
-use Rattle.printed.specs.Printed.{lineRoom}
+use Rattle.printed.specs.Printed.{longestLine}
 use Rattle.handing.specs.declared.Written.{Written}
 use Rattle.handing.specs.HandingLaws.{handed-all, handed-failed}
-use Rattle.output.specs.StepLaws.{left}
-use Rattle.output.specs.OutputLaws.{Along, along-none, along-bytes, along-less, along-total, along-more, along-due, along-all}
+use Rattle.journey_lines.specs.Turns.{left}
+use Rattle.journey_lines.specs.OutputLaws.{along-none, along-bytes, along-less, along-total, along-more, along-due, along-all}
+use Rattle.journey_lines.specs.Along.{Along}
 use borrow.Author.Needs.{needs}
 use Rattle.sending.proofs.print.Statement.{statement}
 use Rattle.sending.proofs.print.Tie as tie
-use Rattle.sending.proofs.print.Reads as reads
-use Rattle.sending.proofs.print.Lts as lts
-use Rattle.handing.proofs.Written.none.Reads as none-reads
-use Rattle.handing.proofs.hand.Reads as hand-reads
-use Rattle.output.proofs.next.Reads as next-reads
 
 abbrev Inv-loop : tie.InvT-loop
-Inv-loop input runs codes tables list₀ out₀ stage₀ written₀ list out stage written = Along input runs codes tables list₀ stage₀ list stage (written .bytes) × (lineRoom ≤ length out) × (length list ≡ length list₀) × (length out ≡ length out₀)
+Inv-loop input runs codes tables list₀ out₀ stage₀ written₀ list out stage written =
+    Along input runs codes tables list₀ stage₀ list stage (written .bytes) × (longestLine ≤ length out) × (length list ≡ length list₀) ×
+    (length out ≡ length out₀)
 
 abbrev μ-loop : tie.MeasureT-loop
 μ-loop input runs codes tables list₀ out₀ stage₀ written₀ list out stage written = left (length input) stage
-
-none-requires : tie.Need-none-requires Inv-loop μ-loop
-none-requires c κs = search needs
 
 loop-holds : tie.Need-loop-holds Inv-loop μ-loop
 loop-holds c =
@@ -35,23 +30,11 @@ next-requires c κs =
     let i = c .before .before .loop .inv in
     (i .1, i .0 .stands)
 
-enum-told : tie.Need-enum-told Inv-loop μ-loop
-enum-told c = search needs
-
-same-length : tie.Need-same-length Inv-loop μ-loop
-same-length c = search needs
-
-same-length-2 : tie.Need-same-length-2 Inv-loop μ-loop
-same-length-2 c = search needs
-
 returns : tie.Need-returns Inv-loop μ-loop
 returns c =
     let n = c .before .before .before .before .before .before in
     let i = n .before .before .before .loop .inv in
     along-all _ _ _ _ _ _ _ _ _ _ _ (i .0) (n .next .ensures) (c .enum-told .given .1)
-
-enum-known-step : tie.Need-enum-known-step Inv-loop μ-loop
-enum-known-step c = search needs
 
 hand-requires : tie.Need-hand-requires Inv-loop μ-loop
 hand-requires c κs =
@@ -62,15 +45,6 @@ hand-requires c κs =
       omega (arith, along-total _ _ _ _ _ _ _ _ _ _ _ (i .0) (n .next .ensures) _ _ (k .step .given .1) (n .next .kept .1 .1 .1 .1 .1 .0)),
     )
 
-enum-known-handed : tie.Need-enum-known-handed Inv-loop μ-loop
-enum-known-handed c = search needs
-
-same-length-3 : tie.Need-same-length-3 Inv-loop μ-loop
-same-length-3 c = search needs
-
-same-length-4 : tie.Need-same-length-4 Inv-loop μ-loop
-same-length-4 c = search needs
-
 returns-2 : tie.Need-returns-2 Inv-loop μ-loop
 returns-2 c =
     let h = c .before .before .before in
@@ -80,9 +54,6 @@ returns-2 c =
     let f = handed-failed (h .hand .ensures) _ (c .before .handed .given .1) in
     let d = along-due _ _ _ _ _ _ _ _ _ _ _ (i .0) (n .next .ensures) _ _ (k .step .given .1) (i .1) (n .next .kept .1 .1 .1 .1 .1 .1 .0) in
     record { some = omega (arith, d .0, f .1); due = λ xs P. omega (arith, d .1 xs P, f .0, f .1) }
-
-enum-known-handed-2 : tie.Need-enum-known-handed-2 Inv-loop μ-loop
-enum-known-handed-2 c = search needs
 
 loop-less : tie.Need-loop-less Inv-loop μ-loop
 loop-less c =
@@ -99,27 +70,13 @@ loop-again c =
     let i = n .before .before .before .loop .inv in
     let l = n .next .kept .1 .1 .1 .1 .1 .0 in
     let o = n .next .kept .1 .1 .1 .1 .1 .1 .0 in
-    (along-more _ _ _ _ _ _ _ _ _ _ _ (i .0) (n .next .ensures) _ _ (k .step .given .1) l (i .1) o (handed-all (h .hand .ensures) _ (c .before .handed2 .given .1)), omega (arith, i .1, o), l ∙ i .2, o ∙ i .3)
+    let a = handed-all (h .hand .ensures) _ (c .before .handed2 .given .1) in
+    (along-more _ _ _ _ _ _ _ _ _ _ _ (i .0) (n .next .ensures) _ _ (k .step .given .1) l (i .1) o a, omega (arith, i .1, o), l ∙ i .2, o ∙ i .3)
 
 pub print-spec : {M : Type 1} → statement M
 print-spec =
     tie.close
     (tie.spec
-    Inv-loop
-    μ-loop
-    none-requires
-    loop-holds
-    next-requires
-    enum-told
-    same-length
-    same-length-2
-    returns
-    enum-known-step
-    hand-requires
-    enum-known-handed
-    same-length-3
-    same-length-4
-    returns-2
-    enum-known-handed-2
-    loop-less
-    loop-again)
+    Inv-loop μ-loop (λ c κs. search needs) loop-holds next-requires (λ c. search needs) (λ c. search needs)
+    (λ c. search needs) returns (λ c. search needs) hand-requires (λ c. search needs) (λ c. search needs)
+    (λ c. search needs) returns-2 (λ c. search needs) loop-less loop-again)

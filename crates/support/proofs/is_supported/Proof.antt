@@ -1,24 +1,25 @@
 use native.Mathlib.Omega.{arith}
-use Rattle.support.specs.SpanLaws.{by-run, by-halves, no-halves}
+use Rattle.timetable.specs.SlotsLaws.{service-slots}
+use Rattle.support.specs.SpanLaws.{by-ride, by-halves, no-halves}
 use borrow.Author.Needs.{needs}
 use Rattle.support.proofs.is_supported.Statement.{statement}
 use Rattle.support.proofs.is_supported.Tie as tie
 use Rattle.support.proofs.is_supported.Reads as reads
 use Rattle.support.proofs.is_supported.Lts as lts
 use Rattle.support.proofs.has_run.Reads as has-run-reads
-use Rattle.pieces.proofs.halves.Reads as halves-reads
+use Rattle.label_sets.proofs.halves.Reads as halves-reads
 
 has-run-requires : tie.Need-has-run-requires
 has-run-requires c κs =
     let s = c .before .before .before .before .before in
     let M = s .pre .0 in
-    ((_, M .numbers), (omega (arith, s .pre .1 .0, M .long), M .notes (s .args .k) (s .args .s) (s .pre .1 .1 .1)))
+    (M .both .numbers, (omega (arith, s .pre .1 .0, M .long), M .notes (s .args .k) (s .args .s) (s .pre .1 .1 .1)))
 
 returns : tie.Need-returns
 returns c =
     let f = c .before in
     let s = f .before .before .before .before .before in
-    by-run _ (s .args .runs .now) _ (s .args .s) (f .if1 .taken) (c .has-run .ensures)
+    by-ride _ _ (s .args .s) (service-slots _ _) (f .if1 .taken) (c .has-run .ensures)
 
 halves-requires : tie.Need-halves-requires
 halves-requires c κs = search needs

@@ -12,10 +12,6 @@ use Rattle.tables.specs.Turns.{labelsRead}
 use Rattle.tables.specs.JudgeLaws.{read-good, read-bad}
 use Rattle.tables.proofs.judge_sets.Statement.{statement}
 use Rattle.tables.proofs.judge_sets.Tie as tie
-use Rattle.tables.proofs.judge_sets.Reads as reads
-use Rattle.tables.proofs.judge_sets.Lts as lts
-use Rattle.tables.proofs.count_of.Reads as count-of-reads
-use Rattle.tables.proofs.judge_set.Reads as judge-set-reads
 
 abbrev Inv-loop : tie.InvT-loop
 Inv-loop bytes n sets start₀ set₀ start set = (set ≤ sets) × (start ≡ startOf bytes set) × (firstOf (badInSet bytes) set ≡ none)
@@ -23,14 +19,8 @@ Inv-loop bytes n sets start₀ set₀ start set = (set ≤ sets) × (start ≡ s
 abbrev μ-loop : tie.MeasureT-loop
 μ-loop bytes n sets start₀ set₀ start set = sets - set
 
-mul-sets : tie.Need-mul-sets Inv-loop μ-loop
-mul-sets c = search needs
-
 loop-holds : tie.Need-loop-holds Inv-loop μ-loop
 loop-holds c = (search needs, sym (start-none _), first-of-none _)
-
-count-of-requires : tie.Need-count-of-requires Inv-loop μ-loop
-count-of-requires c κs = search needs
 
 judge-set-requires : tie.Need-judge-set-requires Inv-loop μ-loop
 judge-set-requires c κs =
@@ -39,19 +29,14 @@ judge-set-requires c κs =
     let lt : at .loop .set < 2 * stopsOf (s .args .bytes .now) = omega arith in
     (s .pre, (search needs, (at .loop .inv .1, (c .count-of .ensures, omega (arith, end-within (s .args .bytes .now) _ _ lt)))))
 
-enum-known-read : tie.Need-enum-known-read Inv-loop μ-loop
-enum-known-read c = search needs
-
 returns : tie.Need-returns Inv-loop μ-loop
 returns c =
     let read = c .before in
     let called = read .before .before in
     let at = called .before .before .before in
-    let lt : at .loop .set < 2 * stopsOf (at .before .before .args .bytes .now) = omega (arith, at .before .before .pre .contents .stops, called .before .before .loop-test .taken) in
+    let lt : at .loop .set < 2 * stopsOf (at .before .before .args .bytes .now) =
+    omega (arith, at .before .before .pre .contents .stops, called .before .before .loop-test .taken) in
     sym (ap labelsRead (first-of-here _ _ _ lt (at .loop .inv .2) (read-bad _ _ (sym (called .judge-set .ensures) ∙ read .read .given .1))))
-
-enum-told : tie.Need-enum-told Inv-loop μ-loop
-enum-told c = search needs
 
 add-start : tie.Need-add-start Inv-loop μ-loop
 add-start c =
@@ -60,12 +45,6 @@ add-start c =
     let s = at .before .before in
     let lt : at .loop .set < 2 * stopsOf (s .args .bytes .now) = omega (arith, s .pre .contents .stops, count .before .loop-test .taken) in
     omega (arith, end-within (s .args .bytes .now) _ _ lt, at .loop .inv .1, count .count-of .ensures, s .pre .few-labels)
-
-add-set : tie.Need-add-set Inv-loop μ-loop
-add-set c = search needs
-
-loop-less : tie.Need-loop-less Inv-loop μ-loop
-loop-less c = search needs
 
 loop-again : tie.Need-loop-again Inv-loop μ-loop
 loop-again c =
@@ -89,17 +68,5 @@ pub judge-sets-spec : {M : Type 1} → statement M
 judge-sets-spec =
     tie.close
     (tie.spec
-    Inv-loop
-    μ-loop
-    mul-sets
-    loop-holds
-    count-of-requires
-    judge-set-requires
-    enum-known-read
-    returns
-    enum-told
-    add-start
-    add-set
-    loop-less
-    loop-again
-    returns-2)
+    Inv-loop μ-loop (λ c. search needs) loop-holds (λ c κs. search needs) judge-set-requires (λ c. search needs) returns
+    (λ c. search needs) add-start (λ c. search needs) (λ c. search needs) loop-again returns-2)

@@ -6,9 +6,6 @@ use Rattle.tables.specs.File.{startOf}
 use Rattle.tables.specs.FileLaws.{start-none, start-more}
 use Rattle.tables.proofs.start_of.Statement.{statement}
 use Rattle.tables.proofs.start_of.Tie as tie
-use Rattle.tables.proofs.start_of.Reads as reads
-use Rattle.tables.proofs.start_of.Lts as lts
-use Rattle.tables.proofs.count_of.Reads as count-of-reads
 
 abbrev Inv-loop : tie.InvT-loop
 Inv-loop bytes set start₀ j₀ start j = (j ≤ set) × (start ≡ startOf bytes j) × (start ≤ 65535 * j)
@@ -19,19 +16,10 @@ abbrev μ-loop : tie.MeasureT-loop
 loop-holds : tie.Need-loop-holds Inv-loop μ-loop
 loop-holds c = (search needs, sym (start-none _), search needs)
 
-count-of-requires : tie.Need-count-of-requires Inv-loop μ-loop
-count-of-requires c κs = search needs
-
 add-start : tie.Need-add-start Inv-loop μ-loop
 add-start c =
     let at = c .before .before in
     omega (arith, at .before .shared-slice-known .given (2 + 2 * at .loop .j), at .before .shared-slice-known .given (2 + 2 * at .loop .j + 1))
-
-add-j : tie.Need-add-j Inv-loop μ-loop
-add-j c = search needs
-
-loop-less : tie.Need-loop-less Inv-loop μ-loop
-loop-less c = search needs
 
 loop-again : tie.Need-loop-again Inv-loop μ-loop
 loop-again c =
@@ -50,12 +38,4 @@ pub start-of-spec : {M : Type 1} → statement M
 start-of-spec =
     tie.close
     (tie.spec
-    Inv-loop
-    μ-loop
-    loop-holds
-    count-of-requires
-    add-start
-    add-j
-    loop-less
-    loop-again
-    returns)
+    Inv-loop μ-loop loop-holds (λ c κs. search needs) add-start (λ c. search needs) (λ c. search needs) loop-again returns)

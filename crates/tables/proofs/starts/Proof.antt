@@ -11,9 +11,6 @@ use Rattle.tables.specs.File.{startOf}
 use Rattle.tables.specs.FileLaws.{start-none, start-more, set-within}
 use Rattle.tables.proofs.starts.Statement.{statement}
 use Rattle.tables.proofs.starts.Tie as tie
-use Rattle.tables.proofs.starts.Reads as reads
-use Rattle.tables.proofs.starts.Lts as lts
-use Rattle.tables.proofs.count_of.Reads as count-of-reads
 
 -- the loop has written the starts of the sets before `at`, and holds the next one
 record Filling (b room₀ : List ℕ) (sets : ℕ) (room : List ℕ) (start at : ℕ) : Type 0 where
@@ -29,36 +26,15 @@ Inv-loop bytes n room₀ sets start₀ set₀ room start set = Filling bytes roo
 abbrev μ-loop : tie.MeasureT-loop
 μ-loop bytes n room₀ sets start₀ set₀ room start set = sets - set
 
-mul-sets : tie.Need-mul-sets Inv-loop μ-loop
-mul-sets c = search needs
-
 loop-holds : tie.Need-loop-holds Inv-loop μ-loop
 loop-holds c =
     record { within = search needs; next = sym (start-none _); few = search needs; long = refl; is = sym (filled-none _ _) }
-
-cast-room : tie.Need-cast-room Inv-loop μ-loop
-cast-room c = search needs
-
-mul-room : tie.Need-mul-room Inv-loop μ-loop
-mul-room c = search needs
-
-slice-write-room : tie.Need-slice-write-room Inv-loop μ-loop
-slice-write-room c = search needs
-
-count-of-requires : tie.Need-count-of-requires Inv-loop μ-loop
-count-of-requires c κs = search needs
 
 add-start : tie.Need-add-start Inv-loop μ-loop
 add-start c =
     let at = c .before .before in
     let s = at .before .before .before in
     omega (arith, set-within {set = at .loop .set} (s .pre .0 .contents) (search needs))
-
-add-set : tie.Need-add-set Inv-loop μ-loop
-add-set c = search needs
-
-loop-less : tie.Need-loop-less Inv-loop μ-loop
-loop-less c = search needs
 
 loop-again : tie.Need-loop-again Inv-loop μ-loop
 loop-again c =
@@ -73,15 +49,6 @@ loop-again c =
       long = simp length-set (i .long);
       is = ap₂ (λ (r : List ℕ) (v : ℕ). set r (at .loop .set) v) (i .is) (i .next) ∙ sym (filled-more _ _ _);
     }
-
-cast-room-2 : tie.Need-cast-room-2 Inv-loop μ-loop
-cast-room-2 c = search needs
-
-mul-room-2 : tie.Need-mul-room-2 Inv-loop μ-loop
-mul-room-2 c = search needs
-
-slice-write-room-2 : tie.Need-slice-write-room-2 Inv-loop μ-loop
-slice-write-room-2 c = search needs
 
 same-length : tie.Need-same-length Inv-loop μ-loop
 same-length c = simp length-set (c .before .loop .inv .long)
@@ -99,20 +66,6 @@ pub starts-spec : {M : Type 1} → statement M
 starts-spec =
     tie.close
     (tie.spec
-    Inv-loop
-    μ-loop
-    mul-sets
-    loop-holds
-    cast-room
-    mul-room
-    slice-write-room
-    count-of-requires
-    add-start
-    add-set
-    loop-less
-    loop-again
-    cast-room-2
-    mul-room-2
-    slice-write-room-2
-    same-length
+    Inv-loop μ-loop (λ c. search needs) loop-holds (λ c. search needs) (λ c. search needs) (λ c. search needs) (λ c κs. search needs)
+    add-start (λ c. search needs) (λ c. search needs) loop-again (λ c. search needs) (λ c. search needs) (λ c. search needs) same-length
     returns)

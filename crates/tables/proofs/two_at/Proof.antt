@@ -3,20 +3,9 @@ use native.Mathlib.Omega.{arith}
 use borrow.Author.Needs.{needs}
 use Rattle.tables.proofs.two_at.Statement.{statement}
 use Rattle.tables.proofs.two_at.Tie as tie
-use Rattle.tables.proofs.two_at.Reads as reads
-use Rattle.tables.proofs.two_at.Lts as lts
-
-shared-slice-read-result : tie.Need-shared-slice-read-result
-shared-slice-read-result c = search needs
 
 cast-result : tie.Need-cast-result
 cast-result c = omega (arith, c .shared-slice-known .given (c .before .args .i))
-
-add-result : tie.Need-add-result
-add-result c = search needs
-
-shared-slice-read-result-2 : tie.Need-shared-slice-read-result-2
-shared-slice-read-result-2 c = search needs
 
 cast-result-2 : tie.Need-cast-result-2
 cast-result-2 c = omega (arith, c .shared-slice-known2 .given (c .before .before .args .i + 1))
@@ -28,18 +17,8 @@ add-result-2 : tie.Need-add-result-2
 add-result-2 c =
     omega (arith, c .before .shared-slice-known .given (c .before .before .args .i), c .shared-slice-known2 .given (c .before .before .args .i + 1))
 
-returns : tie.Need-returns
-returns c = search needs
-
 pub two-at-spec : {M : Type 1} → statement M
 two-at-spec =
     tie.close
     (tie.spec
-    shared-slice-read-result
-    cast-result
-    add-result
-    shared-slice-read-result-2
-    cast-result-2
-    mul-result
-    add-result-2
-    returns)
+    (λ c. search needs) cast-result (λ c. search needs) (λ c. search needs) cast-result-2 mul-result add-result-2 (λ c. search needs))

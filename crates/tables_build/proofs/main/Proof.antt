@@ -4,52 +4,6 @@ use lib.Seq.{length-take-le}
 use borrow.Author.Needs.{needs}
 use Rattle.tables_build.proofs.main.Statement.{statement}
 use Rattle.tables_build.proofs.main.Tie as tie
-use Rattle.tables_build.proofs.main.Reads as reads
-use Rattle.tables_build.proofs.main.Lts as lts
-use Rattle.desk.proofs.built.Reads as built-reads
-use Rattle.desk.proofs.tables_room.Reads as tables-room-reads
-use Rattle.desk.proofs.text_room.Reads as text-room-reads
-use Rattle.files.proofs.has_words.Reads as has-words-reads
-use Rattle.files.proofs.read_named.Reads as read-named-reads
-use Rattle.io.proofs.write_all.Reads as write-all-reads
-use Rattle.os.proofs.arg_count.Reads as arg-count-reads
-use Rattle.tables_build.proofs.save.Reads as save-reads
-
-arg-count-requires : tie.Need-arg-count-requires
-arg-count-requires c κs = search needs
-
-slice-aggregate-has-words : tie.Need-slice-aggregate-has-words
-slice-aggregate-has-words c = search needs
-
-has-words-requires : tie.Need-has-words-requires
-has-words-requires c κs = search needs
-
-returns : tie.Need-returns
-returns c = search needs
-
-text-room-requires : tie.Need-text-room-requires
-text-room-requires c κs = search needs
-
-cast-read-named : tie.Need-cast-read-named
-cast-read-named c = search needs
-
-slice-aggregate-read-named : tie.Need-slice-aggregate-read-named
-slice-aggregate-read-named c = search needs
-
-read-named-requires : tie.Need-read-named-requires
-read-named-requires c κs = search needs
-
-enum-known-n : tie.Need-enum-known-n
-enum-known-n c = search needs
-
-enum-told : tie.Need-enum-told
-enum-told c = search needs
-
-returns-2 : tie.Need-returns-2
-returns-2 c = search needs
-
-tables-room-requires : tie.Need-tables-room-requires
-tables-room-requires c κs = search needs
 
 array-share-prefix-text : tie.Need-array-share-prefix-text
 array-share-prefix-text c =
@@ -62,18 +16,6 @@ slice-aggregate-built c =
     let k = c .before .before .before in
     let r = k .before .before .before in
     sym (length-take-le _ _ (rw (k .n .given .1) at (r .read-named .ensures)))
-
-slice-aggregate-built-2 : tie.Need-slice-aggregate-built-2
-slice-aggregate-built-2 c = search needs
-
-slice-aggregate-built-3 : tie.Need-slice-aggregate-built-3
-slice-aggregate-built-3 c = search needs
-
-built-requires : tie.Need-built-requires
-built-requires c κs = search needs
-
-enum-known-made : tie.Need-enum-known-made
-enum-known-made c = search needs
 
 array-share-prefix-tables : tie.Need-array-share-prefix-tables
 array-share-prefix-tables c =
@@ -89,87 +31,27 @@ slice-aggregate-save c =
     let s = rw (v .made .given .1) at (h .built .ensures .1) in
     sym (length-take-le _ (h .built .last .1 .0) (omega (arith, s .0, h .built .kept .1 .0)))
 
-save-requires : tie.Need-save-requires
-save-requires c κs = search needs
-
-array-share-prefix-out : tie.Need-array-share-prefix-out
-array-share-prefix-out c =
-    let v = c .before .before .before .before in
+tell-requires : tie.Need-tell-requires
+tell-requires c κs =
+    let v = c .before .before .before .before .before in
     let h = v .before .before .before .before in
     let s = rw (v .made .given .1) at (h .built .ensures .1) in
     omega (arith, s .1, h .built .kept .1 .1 .0)
 
-slice-aggregate-write-all : tie.Need-slice-aggregate-write-all
-slice-aggregate-write-all c =
-    let v = c .before .before .before .before .before in
-    let h = v .before .before .before .before in
-    let s = rw (v .made .given .1) at (h .built .ensures .1) in
-    sym (length-take-le _ (h .built .last .1 .1 .0) (omega (arith, s .1, h .built .kept .1 .1 .0)))
-
-write-all-requires : tie.Need-write-all-requires
-write-all-requires c κs = search needs
-
-enum-known-made-2 : tie.Need-enum-known-made-2
-enum-known-made-2 c = search needs
-
-array-share-prefix-out-2 : tie.Need-array-share-prefix-out-2
-array-share-prefix-out-2 c =
-    let v = c .before in
-    let h = v .before .before .before .before in
-    let s = rw (v .made2 .given .1) at (h .built .ensures .1) in
-    omega (arith, s, h .built .kept .1 .1 .0)
-
-slice-aggregate-write-all-2 : tie.Need-slice-aggregate-write-all-2
-slice-aggregate-write-all-2 c =
+tell-requires-2 : tie.Need-tell-requires-2
+tell-requires-2 c κs =
     let v = c .before .before in
     let h = v .before .before .before .before in
     let s = rw (v .made2 .given .1) at (h .built .ensures .1) in
-    sym (length-take-le _ (h .built .last .1 .1 .0) (omega (arith, s, h .built .kept .1 .1 .0)))
-
-write-all-requires-2 : tie.Need-write-all-requires-2
-write-all-requires-2 c κs = search needs
-
-returns-3 : tie.Need-returns-3
-returns-3 c = search needs
-
-returns-4 : tie.Need-returns-4
-returns-4 c = search needs
-
-returns-5 : tie.Need-returns-5
-returns-5 c = search needs
+    omega (arith, s, h .built .kept .1 .1 .0)
 
 pub main-spec : {M : Type 1} → statement M
 main-spec =
     tie.close
     (tie.spec
-    arg-count-requires
-    slice-aggregate-has-words
-    has-words-requires
-    returns
-    text-room-requires
-    cast-read-named
-    slice-aggregate-read-named
-    read-named-requires
-    enum-known-n
-    enum-told
-    returns-2
-    tables-room-requires
-    array-share-prefix-text
-    slice-aggregate-built
-    slice-aggregate-built-2
-    slice-aggregate-built-3
-    built-requires
-    enum-known-made
-    array-share-prefix-tables
-    slice-aggregate-save
-    save-requires
-    array-share-prefix-out
-    slice-aggregate-write-all
-    write-all-requires
-    enum-known-made-2
-    array-share-prefix-out-2
-    slice-aggregate-write-all-2
-    write-all-requires-2
-    returns-3
-    returns-4
-    returns-5)
+    (λ c κs. search needs) (λ c. search needs) (λ c κs. search needs) (λ c. search needs) (λ c κs. search needs)
+    (λ c. search needs) (λ c. search needs) (λ c κs. search needs) (λ c. search needs) (λ c. search needs)
+    (λ c. search needs) (λ c κs. search needs) array-share-prefix-text slice-aggregate-built (λ c. search needs)
+    (λ c. search needs) (λ c κs. search needs) (λ c. search needs) array-share-prefix-tables slice-aggregate-save
+    (λ c κs. search needs) (λ c. search needs) tell-requires (λ c. search needs) (λ c. search needs) tell-requires-2
+    (λ c. search needs) (λ c. search needs) (λ c. search needs))

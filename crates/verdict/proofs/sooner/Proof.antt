@@ -1,5 +1,5 @@
 use borrow.Author.Tests.{lt-ltb, le-ltb, le-leb, lt-leb}
-use Rattle.verdict.specs.Steps.{soonerOf}
+use Rattle.verdict.specs.Minutes.{soonerOf}
 use Rattle.verdict.proofs.sooner.Statement.{statement}
 use Rattle.verdict.proofs.sooner.Tie as tie
 use Rattle.verdict.proofs.sooner.Reads as reads

@@ -4,9 +4,6 @@ use Rattle.words.specs.Words.{beginsB}
 use borrow.Author.Needs.{needs}
 use Rattle.words.proofs.begins.Statement.{statement}
 use Rattle.words.proofs.begins.Tie as tie
-use Rattle.words.proofs.begins.Reads as reads
-use Rattle.words.proofs.begins.Lts as lts
-use Rattle.words.proofs.same.Reads as same-reads
 
 sub-if1 : tie.Need-sub-if1
 sub-if1 c = search needs

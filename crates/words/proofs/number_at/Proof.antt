@@ -2,20 +2,10 @@ use mathlib.Core.Path.{_∙_, sym}
 use denote.Ref.{now}
 use borrow.Author.Tests.{eq-eqb, ne-eqb, lt-ltb, le-ltb}
 use Rattle.words.specs.Words.{numberAt, isNumber}
-use Rattle.words.specs.Digits.{digits-value, digits-other, zero-value}
+use Rattle.words.specs.DigitsLaws.{digits-value, digits-other, zero-value}
 use borrow.Author.Needs.{needs}
 use Rattle.words.proofs.number_at.Statement.{statement}
 use Rattle.words.proofs.number_at.Tie as tie
-use Rattle.words.proofs.number_at.Reads as reads
-use Rattle.words.proofs.number_at.Lts as lts
-use Rattle.words.proofs.digits.Reads as digits-reads
-use Rattle.words.proofs.seek.Reads as seek-reads
-
-seek-requires : tie.Need-seek-requires
-seek-requires c κs = search needs
-
-sub-n : tie.Need-sub-n
-sub-n c = search needs
 
 returns : tie.Need-returns
 unfolding numberAt isNumber
@@ -27,29 +17,29 @@ returns-2 c =
     let b = c .before in
     simp (← b .before .seek .ensures .is, ne-eqb _ _ (b .if1 .left), lt-ltb _ _ (c .if2 .taken))
 
-shared-slice-read-if3 : tie.Need-shared-slice-read-if3
-shared-slice-read-if3 c = search needs
-
 returns-3 : tie.Need-returns-3
 unfolding numberAt isNumber
 returns-3 c =
     let b = c .before .before .before in
-    simp (← b .before .before .seek .ensures .is, eq-eqb _ _ (c .before .if3 .taken), c .if4 .taken, zero-value (now (b .before .before .before .before .args .s)) (b .before .before .before .before .args .from) (c .before .if3 .taken))
+    let z = b .before .before .before .before .args in
+    simp (
+      ← b .before .before .seek .ensures .is,
+      eq-eqb _ _ (c .before .if3 .taken),
+      c .if4 .taken,
+      zero-value (now (z .s)) (z .from) (c .before .if3 .taken),
+    )
 
 returns-4 : tie.Need-returns-4
 unfolding numberAt isNumber
 returns-4 c =
     let b = c .before .before .before in
-    simp (← b .before .before .seek .ensures .is, ne-eqb _ _ (b .before .if1 .left), le-ltb _ _ (b .if2 .left), eq-eqb _ _ (c .before .if3 .taken), ne-eqb _ _ (c .if4 .left))
-
-digits-requires : tie.Need-digits-requires
-digits-requires c κs = search needs
-
-enum-known-d : tie.Need-enum-known-d
-enum-known-d c = search needs
-
-enum-told : tie.Need-enum-told
-enum-told c = search needs
+    simp (
+      ← b .before .before .seek .ensures .is,
+      ne-eqb _ _ (b .before .if1 .left),
+      le-ltb _ _ (b .if2 .left),
+      eq-eqb _ _ (c .before .if3 .taken),
+      ne-eqb _ _ (c .if4 .left),
+    )
 
 returns-5 : tie.Need-returns-5
 unfolding numberAt isNumber
@@ -71,15 +61,5 @@ pub number-at-spec : {M : Type 1} → statement M
 number-at-spec =
     tie.close
     (tie.spec
-    seek-requires
-    sub-n
-    returns
-    returns-2
-    shared-slice-read-if3
-    returns-3
-    returns-4
-    digits-requires
-    enum-known-d
-    enum-told
-    returns-5
-    returns-6)
+    (λ c κs. search needs) (λ c. search needs) returns returns-2 (λ c. search needs) returns-3 returns-4 (λ c κs. search needs)
+    (λ c. search needs) (λ c. search needs) returns-5 returns-6)

@@ -3,8 +3,6 @@ use borrow.Author.Tests.{eq-eqb, le-leb, le-ltb, lt-leb, lt-ltb, ne-eqb}
 use borrow.Author.Needs.{needs}
 use Rattle.kinds.proofs.Run.new.Statement.{statement}
 use Rattle.kinds.proofs.Run.new.Tie as tie
-use Rattle.kinds.proofs.Run.new.Reads as reads
-use Rattle.kinds.proofs.Run.new.Lts as lts
 
 returns : tie.Need-returns
 unfolding runOf
@@ -22,61 +20,65 @@ returns-3 c =
 returns-4 : tie.Need-returns-4
 unfolding runOf
 returns-4 c =
-    simp (lt-leb _ _ (c .before .before .before .if1 .left), lt-leb _ _ (c .before .before .if2 .left), ne-eqb _ _ (c .before .if3 .left), le-leb _ _ (c .if4 .taken))
-
-cast-if5 : tie.Need-cast-if5
-cast-if5 c = search needs
+    simp (
+      lt-leb _ _ (c .before .before .before .if1 .left),
+      lt-leb _ _ (c .before .before .if2 .left),
+      ne-eqb _ _ (c .before .if3 .left),
+      le-leb _ _ (c .if4 .taken),
+    )
 
 returns-5 : tie.Need-returns-5
 unfolding runOf
 returns-5 c =
-    simp (lt-leb _ _ (c .before .before .before .before .if1 .left), lt-leb _ _ (c .before .before .before .if2 .left), ne-eqb _ _ (c .before .before .if3 .left), lt-leb _ _ (c .before .if4 .left), lt-ltb _ _ (c .if5 .taken))
+    simp (
+      lt-leb _ _ (c .before .before .before .before .if1 .left),
+      lt-leb _ _ (c .before .before .before .if2 .left),
+      ne-eqb _ _ (c .before .before .if3 .left),
+      lt-leb _ _ (c .before .if4 .left),
+      lt-ltb _ _ (c .if5 .taken),
+    )
 
 returns-6 : tie.Need-returns-6
 unfolding runOf
 returns-6 c =
-    simp (lt-leb _ _ (c .before .before .before .before .before .if1 .left), lt-leb _ _ (c .before .before .before .before .if2 .left), ne-eqb _ _ (c .before .before .before .if3 .left), lt-leb _ _ (c .before .before .if4 .left), le-ltb _ _ (c .before .if5 .left), eq-eqb _ _ (c .if6 .taken))
+    simp (
+      lt-leb _ _ (c .before .before .before .before .before .if1 .left),
+      lt-leb _ _ (c .before .before .before .before .if2 .left),
+      ne-eqb _ _ (c .before .before .before .if3 .left),
+      lt-leb _ _ (c .before .before .if4 .left),
+      le-ltb _ _ (c .before .if5 .left),
+      eq-eqb _ _ (c .if6 .taken),
+    )
 
 returns-7 : tie.Need-returns-7
 unfolding runOf
 returns-7 c =
-    simp (lt-leb _ _ (c .before .before .before .before .before .before .if1 .left), lt-leb _ _ (c .before .before .before .before .before .if2 .left), ne-eqb _ _ (c .before .before .before .before .if3 .left), lt-leb _ _ (c .before .before .before .if4 .left), le-ltb _ _ (c .before .before .if5 .left), ne-eqb _ _ (c .before .if6 .left), lt-ltb _ _ (c .if7 .taken))
-
-cast-t9 : tie.Need-cast-t9
-cast-t9 c = search needs
-
-cast-t10 : tie.Need-cast-t10
-cast-t10 c = search needs
-
-cast-t11 : tie.Need-cast-t11
-cast-t11 c = search needs
-
-cast-t12 : tie.Need-cast-t12
-cast-t12 c = search needs
-
-cast-t13 : tie.Need-cast-t13
-cast-t13 c = search needs
+    simp (
+      lt-leb _ _ (c .before .before .before .before .before .before .if1 .left),
+      lt-leb _ _ (c .before .before .before .before .before .if2 .left),
+      ne-eqb _ _ (c .before .before .before .before .if3 .left),
+      lt-leb _ _ (c .before .before .before .if4 .left),
+      le-ltb _ _ (c .before .before .if5 .left),
+      ne-eqb _ _ (c .before .if6 .left),
+      lt-ltb _ _ (c .if7 .taken),
+    )
 
 returns-8 : tie.Need-returns-8
 unfolding runOf
 returns-8 c =
-    simp (lt-leb _ _ (c .before .before .before .before .before .before .if1 .left), lt-leb _ _ (c .before .before .before .before .before .if2 .left), ne-eqb _ _ (c .before .before .before .before .if3 .left), lt-leb _ _ (c .before .before .before .if4 .left), le-ltb _ _ (c .before .before .if5 .left), ne-eqb _ _ (c .before .if6 .left), le-ltb _ _ (c .if7 .left))
+    simp (
+      lt-leb _ _ (c .before .before .before .before .before .before .if1 .left),
+      lt-leb _ _ (c .before .before .before .before .before .if2 .left),
+      ne-eqb _ _ (c .before .before .before .before .if3 .left),
+      lt-leb _ _ (c .before .before .before .if4 .left),
+      le-ltb _ _ (c .before .before .if5 .left),
+      ne-eqb _ _ (c .before .if6 .left),
+      le-ltb _ _ (c .if7 .left),
+    )
 
 pub new-spec : {M : Type 1} → statement M
 new-spec =
     tie.close
     (tie.spec
-    returns
-    returns-2
-    returns-3
-    returns-4
-    cast-if5
-    returns-5
-    returns-6
-    returns-7
-    cast-t9
-    cast-t10
-    cast-t11
-    cast-t12
-    cast-t13
-    returns-8)
+    returns returns-2 returns-3 returns-4 (λ c. search needs) returns-5 returns-6 returns-7 (λ c. search needs) (λ c. search needs)
+    (λ c. search needs) (λ c. search needs) (λ c. search needs) returns-8)

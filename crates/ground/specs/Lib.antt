@@ -1,2 +1,0 @@
-pub mod Ground
-pub mod GroundLaws

@@ -1,4 +1,0 @@
-pub mod Seek
-pub mod SeekLaws
-pub mod Pieces
-pub mod PiecesLaws
