@@ -12,7 +12,7 @@ use lines::Field;
 use words::NumberRead;
 
 // The three asks.
-#[derive(Drop)]
+#[derive(Clone, Copy)]
 pub enum Word {
     Early,
     Late,
@@ -20,35 +20,35 @@ pub enum Word {
 }
 
 // A number with which the line ends, or any other form.
-#[derive(Drop)]
+#[derive(Clone, Copy)]
 pub enum LastRead {
     Good(u32),
     Bad,
 }
 
 // The minutes of an ask as they are given, or any other shape.
-#[derive(Drop)]
+#[derive(Clone, Copy)]
 pub enum GivenRead {
     Good(Wanted),
     Bad,
 }
 
 // Where FROM and TO stand, and the minutes.
-#[derive(Drop)]
+#[derive(Clone, Copy)]
 pub struct Shape {
     pub from: Field,
     pub to: Field,
     pub wanted: Wanted,
 }
 
-#[derive(Drop)]
+#[derive(Clone, Copy)]
 pub enum ShapeRead {
     Good(Shape),
     Bad,
 }
 
 // What is asked: two stops by number, and the minutes as they are given.
-#[derive(Drop)]
+#[derive(Clone, Copy)]
 pub struct Ask {
     pub from: u32,
     pub to: u32,
@@ -56,14 +56,14 @@ pub struct Ask {
 }
 
 // An ask, or the number of the refusal: 2, then 5.
-#[derive(Drop)]
+#[derive(Clone, Copy)]
 pub enum LineRead {
     Asked(Ask),
     No(u32),
 }
 
 // What stands at a place of the input: a line, with the place of its LF; bytes without LF; or nothing more.
-#[derive(Drop)]
+#[derive(Clone, Copy)]
 pub enum Piece {
     Line(usize),
     Unfinished,

@@ -17,21 +17,21 @@ use label_sets::Moment;
 use tables::TablesRead;
 
 // A journey by its time pair.
-#[derive(Drop)]
+#[derive(Clone, Copy)]
 pub struct Journey {
     pub dep: u16,
     pub arr: u16,
 }
 
 // What an ask gets.
-#[derive(Drop)]
+#[derive(Clone, Copy)]
 pub enum Answer {
     At(Journey),
     No(Refusal),
 }
 
 // An ask's minutes as they are given.
-#[derive(Drop)]
+#[derive(Clone, Copy)]
 pub enum Wanted {
     Early(u32),
     Late(u32),
@@ -39,35 +39,35 @@ pub enum Wanted {
 }
 
 // The minutes judged: a criterion, or the number of the refusal.
-#[derive(Drop)]
+#[derive(Clone, Copy)]
 pub enum MinutesRead {
     Good(Criterion),
     No(u32),
 }
 
 // An ask that is in order: two different stops and a criterion.
-#[derive(Drop)]
+#[derive(Clone, Copy)]
 pub struct Asked {
     pub from: u16,
     pub to: u16,
     pub criterion: Criterion,
 }
 
-#[derive(Drop)]
+#[derive(Clone, Copy)]
 pub enum AskRead {
     Good(Asked),
     No(Refusal),
 }
 
 // The best pair so far.
-#[derive(Drop)]
+#[derive(Clone, Copy)]
 pub enum Found {
     Pair(Journey),
     Nothing,
 }
 
 // What the out-labels gave, and where among the in-labels the search for partners stands.
-#[derive(Drop)]
+#[derive(Clone, Copy)]
 struct Joined {
     best: Found,
     next: usize,

@@ -26,14 +26,14 @@ use timetable::Given;
 use verdict::Verdict;
 
 // The tables are accepted, and the timetable has so many stops and runs; or so many bytes tell why not.
-#[derive(Drop)]
+#[derive(Clone, Copy)]
 pub enum Admitted {
     Yes(Counts),
     No(usize),
 }
 
 // So many bytes of tables were made, and so many tell of them; or so many tell why not.
-#[derive(Drop)]
+#[derive(Clone, Copy)]
 pub enum Made {
     Tables(usize, usize),
     No(usize),
@@ -65,13 +65,13 @@ pub fn tables_room() -> [u8; tables::FILE_ROOM + 1]
 // ---- A label by its set, and by its ends.
 
 // A label is an out-label or an in-label of its owner.
-#[derive(Drop)]
+#[derive(Clone, Copy)]
 struct Whose {
     outgoing: bool,
     owner: u16,
 }
 
-#[derive(Drop)]
+#[derive(Clone, Copy)]
 struct Ends {
     from: u16,
     to: u16,

@@ -11,14 +11,14 @@ use libc::STDOUT_FILENO;
 use printed::put_part;
 
 // What came of reading: so many bytes, at most as many as the buffer has; or the file cannot be read.
-#[derive(Drop)]
+#[derive(Clone, Copy)]
 pub enum FileRead {
     Read(usize),
     No,
 }
 
 // A file to be written under its first name: its number, and the descriptor. Or all names are taken, or it cannot be made.
-#[derive(Drop)]
+#[derive(Clone, Copy)]
 enum Part {
     Made(u8, i32),
     Taken,

@@ -20,7 +20,7 @@ use rides::RidesAnswer;
 use timetable::Given;
 
 // How much of each room is in use: stops and runs, bytes of the text and of the tables.
-#[derive(Drop)]
+#[derive(Clone, Copy)]
 pub struct Sizes {
     pub given: Given,
     pub text: usize,
@@ -28,7 +28,7 @@ pub struct Sizes {
 }
 
 // Whose turn it is: that of ride `ride` of the `rides` that are listed, and after them that of the line at `at`.
-#[derive(Drop)]
+#[derive(Clone, Copy)]
 pub struct Turn {
     pub at: usize,
     pub ride: u32,
@@ -45,7 +45,7 @@ impl Turn {
 }
 
 // What is still to be printed: the refusal of the timetable or of the build, what the asks get, or nothing.
-#[derive(Drop)]
+#[derive(Clone, Copy)]
 pub enum Stage {
     Refused(Refusal),
     Asks(Sizes, Turn),
@@ -53,7 +53,7 @@ pub enum Stage {
 }
 
 // A line of so many bytes, and what is to be printed after it; or nothing more.
-#[derive(Drop)]
+#[derive(Clone, Copy)]
 pub enum Step {
     Printed(usize, Stage),
     Nothing,

@@ -2,7 +2,7 @@
 // of it that code takes apart.
 
 // A ride leaves the stop `from` at minute `dep` and arrives at the stop `to` at minute `arr`.
-#[derive(Drop)]
+#[derive(Clone, Copy)]
 pub struct Ride {
     pub from: u16,
     pub to: u16,
@@ -11,7 +11,7 @@ pub struct Ride {
 }
 
 // What is asked, with its minutes: early(t), late(t), short(t, t2).
-#[derive(Drop)]
+#[derive(Clone, Copy)]
 pub enum Criterion {
     Early(u16),
     Late(u16),

@@ -22,10 +22,10 @@ ghost use Rattle.kinds.specs.Kinds.{stop_of, is_stop_count, minute_of, trip_of, 
 
 // ---- Stops: 1 to 255, numbered from 0 in rank order.
 
-#[derive(Drop)]
+#[derive(Clone, Copy)]
 pub struct Stop(pub u16);
 
-#[derive(Drop)]
+#[derive(Clone, Copy)]
 pub enum StopRead {
     Good(Stop),
     Bad,
@@ -37,14 +37,14 @@ impl Stop {
     pub const CODES_ROOM: usize = 2 * Stop::MOST;
 
     pub fn most() -> usize
-        ensures* result_value { do ⌜ result ≡ (← (⟦Stop::MOST⟧).entry) ⌝ }
+        ensures constant { result ≡ Stop.MOST }
         ensures value { result ≡ most_stops }
     {
         Stop::MOST
     }
 
     pub fn codes_room() -> usize
-        ensures* result_value { do ⌜ result ≡ (← (⟦Stop::CODES_ROOM⟧).entry) ⌝ }
+        ensures constant { result ≡ Stop.CODES_ROOM }
         ensures value { result ≡ codes_room }
     {
         Stop::CODES_ROOM
@@ -75,10 +75,10 @@ impl Stop {
 
 // ---- Minutes: 0 to 2,879.
 
-#[derive(Drop)]
+#[derive(Clone, Copy)]
 pub struct Minute(pub u16);
 
-#[derive(Drop)]
+#[derive(Clone, Copy)]
 pub enum MinuteRead {
     Good(Minute),
     Bad,
@@ -90,14 +90,14 @@ impl Minute {
     pub const UNREACHED: u16 = 65535;
 
     pub fn last() -> u16
-        ensures* result_value { do ⌜ result ≡ (← (⟦Minute::LAST⟧).entry) ⌝ }
+        ensures constant { result ≡ Minute.LAST }
         ensures value { result ≡ last_minute }
     {
         Minute::LAST
     }
 
     pub fn unreached() -> u16
-        ensures* result_value { do ⌜ result ≡ (← (⟦Minute::UNREACHED⟧).entry) ⌝ }
+        ensures constant { result ≡ Minute.UNREACHED }
         ensures value { result ≡ unreached }
     {
         Minute::UNREACHED
@@ -116,10 +116,10 @@ impl Minute {
 
 // ---- Trip numbers: 1 to 65,535.
 
-#[derive(Drop)]
+#[derive(Clone, Copy)]
 pub struct Trip(pub u16);
 
-#[derive(Drop)]
+#[derive(Clone, Copy)]
 pub enum TripRead {
     Good(Trip),
     Bad,
@@ -129,7 +129,7 @@ impl Trip {
     pub const MOST: u32 = 65535;
 
     pub fn most() -> u32
-        ensures* result_value { do ⌜ result ≡ (← (⟦Trip::MOST⟧).entry) ⌝ }
+        ensures constant { result ≡ Trip.MOST }
         ensures value { result ≡ most_trip }
     {
         Trip::MOST
@@ -151,7 +151,7 @@ impl Trip {
 
 // ---- Runs: 0 to 4,096, numbered from 0 in file order; five numbers a run.
 
-#[derive(Drop)]
+#[derive(Clone, Copy)]
 pub struct Run {
     pub from: u16,
     pub to: u16,
@@ -161,7 +161,7 @@ pub struct Run {
 }
 
 // A run, or the number of the refusal: 5, 6 or 7, in this order.
-#[derive(Drop)]
+#[derive(Clone, Copy)]
 pub enum RunRead {
     Good(Run),
     Bad(u32),
@@ -175,21 +175,21 @@ impl Run {
     pub const ROOM: usize = Run::NUMBERS * Run::MOST;
 
     pub fn most() -> usize
-        ensures* result_value { do ⌜ result ≡ (← (⟦Run::MOST⟧).entry) ⌝ }
+        ensures constant { result ≡ Run.MOST }
         ensures value { result ≡ most_runs }
     {
         Run::MOST
     }
 
     pub fn numbers() -> usize
-        ensures* result_value { do ⌜ result ≡ (← (⟦Run::NUMBERS⟧).entry) ⌝ }
+        ensures constant { result ≡ Run.NUMBERS }
         ensures value { result ≡ run_numbers }
     {
         Run::NUMBERS
     }
 
     pub fn room() -> usize
-        ensures* result_value { do ⌜ result ≡ (← (⟦Run::ROOM⟧).entry) ⌝ }
+        ensures constant { result ≡ Run.ROOM }
         ensures value { result ≡ runs_room }
     {
         Run::ROOM
@@ -239,7 +239,7 @@ impl Run {
 
 // ---- Labels: 0 to 8,192 in all.
 
-#[derive(Drop)]
+#[derive(Clone, Copy)]
 pub struct Label {
     pub hub: u16,
     pub dep: u16,
@@ -247,7 +247,7 @@ pub struct Label {
     pub pivot: u16,
 }
 
-#[derive(Drop)]
+#[derive(Clone, Copy)]
 pub enum LabelRead {
     Good(Label),
     Bad,
@@ -259,14 +259,14 @@ impl Label {
     pub const NO_PIVOT: u16 = 65535;
 
     pub fn most() -> usize
-        ensures* result_value { do ⌜ result ≡ (← (⟦Label::MOST⟧).entry) ⌝ }
+        ensures constant { result ≡ Label.MOST }
         ensures value { result ≡ most_labels }
     {
         Label::MOST
     }
 
     pub fn no_pivot() -> u16
-        ensures* result_value { do ⌜ result ≡ (← (⟦Label::NO_PIVOT⟧).entry) ⌝ }
+        ensures constant { result ≡ Label.NO_PIVOT }
         ensures value { result ≡ no_pivot }
     {
         Label::NO_PIVOT
@@ -313,7 +313,7 @@ impl Label {
 
 // ---- Codes: 1 to 64 bytes, each 33 to 126.
 
-#[derive(Drop)]
+#[derive(Clone, Copy)]
 pub struct Code {
     pub start: u32,
     pub length: u32,
@@ -327,7 +327,7 @@ impl Code {
     pub const MOST_BYTE: u8 = 126;
 
     pub fn most() -> usize
-        ensures* result_value { do ⌜ result ≡ (← (⟦Code::MOST⟧).entry) ⌝ }
+        ensures constant { result ≡ Code.MOST }
         ensures value { result ≡ most_code }
     {
         Code::MOST
@@ -354,7 +354,7 @@ impl Code {
 
 // ---- Text: at most 1,048,576 bytes; the program holds at most 65,536 bytes of input.
 
-#[derive(Drop)]
+#[derive(Clone, Copy)]
 pub struct Text(pub u32);
 
 impl Text {
@@ -363,14 +363,14 @@ impl Text {
     pub const INPUT_MOST: usize = 65536;
 
     pub fn most() -> usize
-        ensures* result_value { do ⌜ result ≡ (← (⟦Text::MOST⟧).entry) ⌝ }
+        ensures constant { result ≡ Text.MOST }
         ensures value { result ≡ most_text }
     {
         Text::MOST
     }
 
     pub fn input_most() -> usize
-        ensures* result_value { do ⌜ result ≡ (← (⟦Text::INPUT_MOST⟧).entry) ⌝ }
+        ensures constant { result ≡ Text.INPUT_MOST }
         ensures value { result ≡ most_input }
     {
         Text::INPUT_MOST
@@ -379,7 +379,7 @@ impl Text {
 
 // ---- Refusals. A refusal carries number and place only; the stop is the second place of refusal 20, else 0.
 
-#[derive(Drop)]
+#[derive(Clone, Copy)]
 pub struct Refusal {
     pub number: u32,
     pub place: u32,

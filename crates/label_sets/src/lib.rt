@@ -15,7 +15,7 @@ use kinds::{Label, Stop};
 
 // A label by its ends, its minutes and its pivot (Label::NO_PIVOT for none). A pair of labels that meet at a stop is one too, with that
 // stop for its pivot.
-#[derive(Drop)]
+#[derive(Clone, Copy)]
 pub struct Span {
     pub from: u16,
     pub to: u16,
@@ -25,21 +25,21 @@ pub struct Span {
 }
 
 // By which of its minutes a label is looked for.
-#[derive(Drop)]
+#[derive(Clone, Copy)]
 pub enum Moment {
     Leaving(u16),
     Arriving(u16),
 }
 
 // A label that was looked for: its number and what it says.
-#[derive(Drop)]
+#[derive(Clone, Copy)]
 pub enum Sought {
     Found(u16, Label),
     Missing,
 }
 
 // The two labels that meet at a pivot: the first arrives at `mid`, the second leaves at `start`; and their pivots.
-#[derive(Drop)]
+#[derive(Clone, Copy)]
 pub struct Meeting {
     pub mid: u16,
     pub first: u16,
@@ -47,7 +47,7 @@ pub struct Meeting {
     pub second: u16,
 }
 
-#[derive(Drop)]
+#[derive(Clone, Copy)]
 pub enum Parted {
     Met(Meeting),
     Missing,

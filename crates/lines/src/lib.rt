@@ -7,42 +7,42 @@ use kinds::{Code, Refusal, Run, RunRead, Stop};
 use words::NumberRead;
 
 // The numbers of a run line.
-#[derive(Drop)]
+#[derive(Clone, Copy)]
 pub struct Numbers {
     pub dep: u32,
     pub arr: u32,
     pub trip: u32,
 }
 
-#[derive(Drop)]
+#[derive(Clone, Copy)]
 pub enum NumbersRead {
     Good(Numbers),
     Bad(u32),
 }
 
 // Where a field begins, and where it ends.
-#[derive(Drop)]
+#[derive(Clone, Copy)]
 pub struct Field {
     pub at: usize,
     pub end: usize,
 }
 
 // The codes of a run line and its numbers.
-#[derive(Drop)]
+#[derive(Clone, Copy)]
 pub struct Fields {
     pub from: Field,
     pub to: Field,
     pub numbers: Numbers,
 }
 
-#[derive(Drop)]
+#[derive(Clone, Copy)]
 pub enum FieldsRead {
     Good(Fields),
     Bad(u32),
 }
 
 // What a line says: a stop's code, a run, the end, or the refusal.
-#[derive(Drop)]
+#[derive(Clone, Copy)]
 pub enum Line {
     Stop(Code),
     Run(Run),

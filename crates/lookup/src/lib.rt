@@ -42,7 +42,7 @@ const PROBES: usize = 32;
 const FACTORS_BELOW: u64 = 1073741824;
 
 // What the bytes of a code that were read come to.
-#[derive(Drop)]
+#[derive(Clone, Copy)]
 struct Mix {
     a: u64,
     b: u64,
@@ -51,14 +51,14 @@ struct Mix {
 }
 
 // The words that the last bytes of a code come to.
-#[derive(Drop)]
+#[derive(Clone, Copy)]
 struct Ends {
     first: u64,
     last: u64,
 }
 
 // Where a code's way ended: the stop with the code, or `stops`; the code's mark; and the slot that is free for it, or SLOTS.
-#[derive(Drop)]
+#[derive(Clone, Copy)]
 struct Walked {
     stop: u32,
     mark: u64,

@@ -18,14 +18,14 @@ use label_sets::{Moment, Parted, Sought, Span};
 use timetable::Given;
 
 // How many rides there are, or that one is missing.
-#[derive(Drop)]
+#[derive(Clone, Copy)]
 pub enum Opened {
     Rides(usize),
     Missing,
 }
 
 // The stop where an answer is taken apart: the pivot of a single label (Label::NO_PIVOT for none), or the hub of a joined pair.
-#[derive(Drop)]
+#[derive(Clone, Copy)]
 enum Way {
     Through(u16),
     Nowhere,

@@ -10,13 +10,13 @@ use kinds::{Refusal, Run, Stop, Text};
 use lines::Line;
 
 // How many stops and runs were read.
-#[derive(Drop)]
+#[derive(Clone, Copy)]
 pub struct Counts {
     pub stops: u32,
     pub runs: u32,
 }
 
-#[derive(Drop)]
+#[derive(Clone, Copy)]
 pub enum ReadAnswer {
     Read(Counts),
     No(Refusal),

@@ -26,14 +26,14 @@ pub fn line_room() -> usize
 }
 
 // Where one changes, if anywhere.
-#[derive(Drop)]
+#[derive(Clone, Copy)]
 pub enum Change {
     Direct,
     At(Code),
 }
 
 // A label's pivot by its number, if it has one.
-#[derive(Drop)]
+#[derive(Clone, Copy)]
 pub enum Pivot {
     No,
     At(u32),

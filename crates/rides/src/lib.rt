@@ -20,7 +20,7 @@ use tables::TablesRead;
 use timetable::Given;
 
 // A journey by its time pair, and how many rides it has.
-#[derive(Drop)]
+#[derive(Clone, Copy)]
 pub struct Listed {
     pub dep: u16,
     pub arr: u16,
@@ -28,7 +28,7 @@ pub struct Listed {
 }
 
 // What an ask with rides gets.
-#[derive(Drop)]
+#[derive(Clone, Copy)]
 pub enum RidesAnswer {
     At(Listed),
     No(Refusal),

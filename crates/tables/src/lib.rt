@@ -27,21 +27,21 @@ const NO_PIVOT: u8 = 255;
 pub const FILE_ROOM: usize = HEADER + ENTRY * Stop::MOST + LABEL * Label::MOST;
 
 // The labels judged one after the other: none is bad, or the first that is.
-#[derive(Drop)]
+#[derive(Clone, Copy)]
 enum LabelsRead {
     AllGood,
     BadAt(u32),
 }
 
 // The labels of a set are those from `start` up to, not including, `end`.
-#[derive(Drop)]
+#[derive(Clone, Copy)]
 pub struct Bounds {
     pub start: usize,
     pub end: usize,
 }
 
 // The stop count of good tables, or a refusal.
-#[derive(Drop)]
+#[derive(Clone, Copy)]
 pub enum TablesRead {
     Good(u16),
     No(Refusal),

@@ -11,20 +11,20 @@ use journeys::Ride;
 use kinds::{Refusal, Run, RunRead, Stop};
 
 // What is given beside the list of runs: how many stops and how many runs there are.
-#[derive(Drop)]
+#[derive(Clone, Copy)]
 pub struct Given {
     pub stops: u32,
     pub runs: u32,
 }
 
-#[derive(Drop)]
+#[derive(Clone, Copy)]
 pub enum Judged {
     Good,
     No(Refusal),
 }
 
 // What stands at a slot: a ride, or one that is not in force.
-#[derive(Drop)]
+#[derive(Clone, Copy)]
 pub enum SlotRead {
     InForce(Ride),
     NotInForce,

@@ -20,28 +20,28 @@ use tables::TablesRead;
 use timetable::{Given, SlotRead};
 
 // What the check answers.
-#[derive(Drop)]
+#[derive(Clone, Copy)]
 pub enum Verdict {
     Accepted,
     No(Refusal),
 }
 
 // The first gap: its slot and its stop.
-#[derive(Drop)]
+#[derive(Clone, Copy)]
 enum Gap {
     At(usize, u16),
     Nothing,
 }
 
 // The soonest one can be at a stop, by the minutes at which the hubs are reached from a ride's start, and from its end.
-#[derive(Drop)]
+#[derive(Clone, Copy)]
 struct Soonest {
     near: u16,
     far: u16,
 }
 
 // A set of labels: its first label, and where it ends.
-#[derive(Drop)]
+#[derive(Clone, Copy)]
 struct Stretch {
     from: usize,
     to: usize,

@@ -8,14 +8,14 @@ ghost use Rattle.words.specs.Digits.{digits_at};
 use kinds::{Code, Refusal};
 
 // A number, and where its field ends: at the next space, or at the end of the line.
-#[derive(Drop)]
+#[derive(Clone, Copy)]
 pub struct Number {
     pub value: u32,
     pub end: usize,
 }
 
 // A number, or the refusal of any other form.
-#[derive(Drop)]
+#[derive(Clone, Copy)]
 pub enum NumberRead {
     Good(Number),
     Bad(u32),
@@ -73,7 +73,7 @@ pub fn is_word(s: &[u8], from: usize, to: usize, word: &[u8]) -> bool
     false
 }
 
-#[derive(Drop)]
+#[derive(Clone, Copy)]
 enum DigitsRead {
     Value(u32),
     Other,

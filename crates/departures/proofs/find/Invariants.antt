@@ -1,0 +1,10 @@
+use Prim.Native.Nat.{◌-◌}
+use Rattle.timetable.specs.Slots.{service_of}
+use Rattle.departures.specs.Turns.{WalkedTo}
+use Rattle.departures.proofs.find.Given as goal
+
+abbrev pub invariant-loop-i : goal.invariant-loop-i
+invariant-loop-i l = WalkedTo (service_of l.given l.runs) l.from l.to l.dep l.arr l.i
+
+abbrev pub decreases-loop-i : goal.decreases-loop-i
+decreases-loop-i l = l.none - l.i

@@ -1,0 +1,11 @@
+use mathlib.Core.Path.{refl}
+use Rattle.kiosk.specs.Four.{four_ask}
+use Rattle.kiosk.proofs.four_ask.Goals as goal
+
+pub returns-in-At : goal.returns-in-At
+unfolding four_ask
+returns-in-At c = rw c.in-At.is refl
+
+pub returns-in-No : goal.returns-in-No
+unfolding four_ask
+returns-in-No c = rw c.in-No.is refl
