@@ -1,4 +1,6 @@
 // What an ask line gets, and what is printed for it, line by line: the head, and then a line for each ride.
+#![tactic(auto)]
+
 ghost use Rattle.std.specs.Prelude.{◌≡◌, ◌≤◌, length, get_or};
 ghost use Rattle.loops.specs.Zero.{zeros};
 ghost use Rattle.lookup.specs.Lookup.{Placed};

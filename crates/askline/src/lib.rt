@@ -1,4 +1,6 @@
 // What follows the timetable in the input of the program "journey": where the timetable ends, the lines after it, and what an ask line asks.
+#![tactic(auto)]
+
 ghost use Rattle.std.specs.Prelude.{◌≡◌, ◌+◌, ◌≤◌, ◌<◌, length};
 ghost use Rattle.lookup.specs.Lookup.{Placed};
 ghost use Rattle.words.specs.Words.{is_word_b};

@@ -1,4 +1,6 @@
 // Early, late and short over a tables file: one join serves the three.
+#![tactic(auto)]
+
 ghost use Rattle.std.specs.Prelude.{◌≡◌, ℕ, ◌+◌, ◌≤◌};
 ghost use Rattle.kinds.specs.Limits.{most_stops};
 ghost use Rattle.journeys.specs.Tables.{outs, ins, Sketch};

@@ -1,4 +1,6 @@
 // Tables and timetable judged together: what the check and the asks with rides refuse before they hold one against the other.
+#![tactic(auto)]
+
 ghost use Rattle.std.specs.Prelude.{◌≡◌};
 ghost use Rattle.tables.specs.Judged.{judged_tables};
 ghost use Rattle.timetable.specs.Numbers.{judged_of};

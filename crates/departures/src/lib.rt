@@ -1,6 +1,8 @@
 // The rides by departure, in buckets: for each bucket the first of its slots, and for each slot the next one of the same bucket. So a ride is
 // looked up among those only that leave when it does. The rides of a journey leave one after the other, so the look-ups of one ask together
 // meet each slot at most once.
+#![tactic(auto)]
+
 ghost use Rattle.std.specs.Prelude.{◌≡◌, ◌+◌, ◌≤◌, ◌<◌, length, get_or};
 ghost use Rattle.loops.specs.Filled.{filled};
 ghost use Rattle.loops.specs.First.{FirstAt};

@@ -1,4 +1,6 @@
 // What people are told of a check and of a build.
+#![tactic(auto)]
+
 ghost use Rattle.std.specs.Prelude.{◌≡◌, List, ◌++◌, ℕ, ◌+◌, ◌*◌, ◌≤◌, ◌<◌, ◌⊎◌, length};
 ghost use Rattle.loops.specs.Zero.{zeros};
 ghost use Rattle.journeys.specs.Tables.{outs, ins, Entry, LabelAt};

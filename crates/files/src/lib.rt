@@ -2,6 +2,8 @@
 // a file. Where a file cannot be used standard output says so, and standard error says why, in the system's words. No contract can say what a file
 // holds or what is done to it. What is said: nothing is read or written outside the buffers, under which name a file is written first, when it counts as
 // whole, and that only a whole file gets its own name.
+#![tactic(auto)]
+
 ghost use Rattle.std.specs.Prelude.{◌+◌, ◌≤◌, ◌<◌, ◌≡◌, false, eqb, length};
 ghost use Rattle.io.specs.Counts.{IsPrefixLen};
 ghost use Rattle.printed.specs.Wrote.{Wrote};

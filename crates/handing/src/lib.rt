@@ -1,5 +1,7 @@
 // Bytes handed on to standard output. How many were written, and that a write failed, is told by values that no other crate can make: their fields are
 // private, and only `hand` makes more of them.
+#![tactic(auto)]
+
 ghost use Rattle.std.specs.Prelude.{◌≡◌, ◌+◌, ◌≤◌, length};
 ghost use Rattle.handing.specs.Handing.{most_bytes, handed_as, HandedOn};
 

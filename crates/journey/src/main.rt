@@ -1,5 +1,7 @@
 // Reads a timetable and ask lines from standard input, and prints what they get. Which lines are printed is fixed in the crate `journey_lines`: here they
 // are handed on, one after the other.
+#![tactic(auto)]
+
 ghost use Rattle.journey.specs.Sent.{SentFor};
 
 use builder::Work;

@@ -1,5 +1,7 @@
 // What the program "journey" prints for its input, line by line. `start` reads the timetable and builds the tables; each `next` writes one line into
 // a buffer and says what is to be printed after it. The program hands the lines on and decides nothing.
+#![tactic(auto)]
+
 ghost use Rattle.std.specs.Prelude.{◌≡◌, ◌+◌, ◌≤◌, ◌<◌, length, take, get_or};
 ghost use Rattle.loops.specs.Zero.{zeros};
 ghost use Rattle.timetable.specs.Numbers.{run_at};

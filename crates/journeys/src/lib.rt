@@ -1,5 +1,6 @@
 // The meaning of the kiosk's work is in specs/: definitions that a reader must believe, and their laws. These are the types
 // of it that code takes apart.
+#![tactic(auto)]
 
 // A ride leaves the stop `from` at minute `dep` and arrives at the stop `to` at minute `arr`.
 #[derive(Clone, Copy)]

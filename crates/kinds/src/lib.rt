@@ -1,6 +1,8 @@
 // The kinds of things that the kiosk speaks of, each with its limits and its constructors.
 // A limit stands here, under the kind of thing it limits, and in specs/Limits.antt for the definitions;
 // the functions `..most..` and `last` are proved to say both, so that the two cannot drift apart.
+#![tactic(auto)]
+
 ghost use Rattle.std.specs.Prelude.{◌≡◌, ◌*◌, ◌≤◌};
 ghost use Rattle.kinds.specs.Limits.{
   most_stops,

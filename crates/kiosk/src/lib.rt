@@ -1,5 +1,7 @@
 // What kiosk engineering links. Every name begins with kiosk_; all numbers are u32; `answer` is [0, ..] on success and
 // [number, place, stop, 0] on a refusal. include/kiosk.h says the same for C.
+#![tactic(auto)]
+
 ghost use Rattle.std.specs.Prelude.{◌≡◌, length};
 ghost use Rattle.tables.specs.File.{tables_of};
 ghost use Rattle.asks.specs.declared.Answer.{Answer};

@@ -1,5 +1,7 @@
 // The label sets of good tables: where each of them starts, written down once in a lent room; a label looked up in its set by its hub and one
 // of its minutes; and the two labels that meet at a label's pivot.
+#![tactic(auto)]
+
 ghost use Rattle.std.specs.Prelude.{◌≡◌, ℕ, ◌≤◌, ◌<◌, length, get_or};
 ghost use Rattle.loops.specs.First.{FirstAt};
 ghost use Rattle.loops.specs.Tells.{Tells};

@@ -1,4 +1,6 @@
 // One line of the timetable text: what it says, and nothing of where it stands in the file.
+#![tactic(auto)]
+
 ghost use Rattle.std.specs.Prelude.{◌≡◌, ◌+◌, ◌≤◌, ◌<◌, length};
 ghost use Rattle.lookup.specs.Index.{CodesIndexed};
 ghost use Rattle.lines.specs.Lines.{numbers_at, fields_at, read_stop_line, run_fields, read_run_line, line_of, Stretch, FieldsWithin};

@@ -1,4 +1,6 @@
 // Which stop has a code. Codes are compared whole: the length first, then every byte.
+#![tactic(auto)]
+
 ghost use Rattle.std.specs.Prelude.{◌≡◌, ◌+◌, ◌*◌, ◌-◌, ◌%◌, ◌≤◌, ◌<◌, length};
 ghost use Rattle.lookup.specs.Lookup.{code_at, has_code, stop_named, put_code, Placed};
 ghost use Rattle.kinds.specs.Limits.{most_stops, most_code};

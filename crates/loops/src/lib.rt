@@ -1,5 +1,7 @@
 // What loops are made with, and no domain: lent buffers made all zero, one function a width, and all one number (the law is one,
 // specs/MadeLaws.antt); the lesser of two numbers.
+#![tactic(auto)]
+
 ghost use Rattle.std.specs.Prelude.{◌≡◌, min, length, replicate};
 ghost use Rattle.loops.specs.Zero.{zeros};
 

@@ -1,5 +1,7 @@
 // The lines that the program "journey" prints, written into a buffer that the caller lends, and the pieces that other printed lines are made of. Each
 // function answers the place after the bytes that it wrote; what stands in the buffer elsewhere is as it was.
+#![tactic(auto)]
+
 ghost use Rattle.std.specs.Prelude.{◌≡◌, [], ◌∷◌, ◌+◌, ◌≤◌, ◌<◌, length, take, drop};
 ghost use Rattle.words.specs.Words.{lf, space};
 ghost use Rattle.kinds.specs.Limits.{most_code};

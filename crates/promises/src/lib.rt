@@ -1,5 +1,7 @@
 // Demands 2 and 3 as functions: tables of the builder are asked; tables from anyone are checked, and only then asked. Their contracts speak of
 // the timetable's journeys.
+#![tactic(auto)]
+
 ghost use Rattle.std.specs.Prelude.{◌≡◌, length};
 ghost use Rattle.loops.specs.Zero.{zeros};
 ghost use Rattle.promises.specs.Calls.{CheckedAsk, CheckedRides, BuiltAsk, BuiltRides};

@@ -1,4 +1,6 @@
 // The reader of timetable text: lines to numbers, line by line; the first bad line decides.
+#![tactic(auto)]
+
 ghost use Rattle.std.specs.Prelude.{◌≡◌, ◌+◌, ◌*◌, ◌≤◌, length};
 ghost use Rattle.loops.specs.Zero.{zeros};
 ghost use Rattle.kinds.specs.Limits.{run_numbers};

@@ -1,5 +1,7 @@
 // What the programs for people print, line by line, into a buffer that the caller lends: refusals in words, labels, runs and stops spelled out.
 // Each function answers the place after the bytes that it wrote; what stands in the buffer elsewhere is as it was.
+#![tactic(auto)]
+
 ghost use Rattle.std.specs.Prelude.{◌≡◌, true, ◌∷◌, ◌++◌, ◌+◌, ◌≤◌, ◌<◌, length};
 ghost use Rattle.words.specs.Words.{space};
 ghost use Rattle.kinds.specs.Limits.{most_code};

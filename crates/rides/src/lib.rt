@@ -1,4 +1,6 @@
 // Early, late and short with rides: the answer over the tables, and the run numbers of its rides in the lent list.
+#![tactic(auto)]
+
 ghost use Rattle.std.specs.Prelude.{◌≡◌, ◌≤◌, length};
 ghost use Rattle.loops.specs.Zero.{zeros};
 ghost use Rattle.journeys.specs.Criteria.{Best};

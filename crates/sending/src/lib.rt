@@ -1,5 +1,7 @@
 // The lines that a program prints, handed on to standard output one after the other. Which lines they are is fixed in the crate `journey_lines`; that they were
 // written, or that a write failed, is told by the values of the crate `handing`, which cannot be made otherwise.
+#![tactic(auto)]
+
 ghost use Rattle.std.specs.Prelude.{◌≤◌, length};
 ghost use Rattle.printed.specs.Printed.{longest_line};
 ghost use Rattle.journey_lines.specs.Steps.{Stands};

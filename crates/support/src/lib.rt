@@ -1,4 +1,6 @@
 // Whether the labels of good tables are supported, label by label in the file's order.
+#![tactic(auto)]
+
 ghost use Rattle.std.specs.Prelude.{◌≡◌, ◌+◌, ◌*◌, ◌≤◌, ◌<◌, length};
 ghost use Rattle.loops.specs.Fails.{FailsAt};
 ghost use Rattle.loops.specs.Tells.{Tells};

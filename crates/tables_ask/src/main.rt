@@ -1,5 +1,7 @@
 // Answers ask lines from standard input by a tables file, once the check has accepted it against the timetable; else it says why not. What is said is
 // fixed in the crate `desk`, what the asks get in the crate `journey_lines`.
+#![tactic(auto)]
+
 ghost use Rattle.std.specs.Prelude.{◌≡◌, ◌+◌, ◌≤◌, length, take, replicate};
 ghost use Rattle.kinds.specs.Limits.{most_text, most_input, last_minute};
 ghost use Rattle.files.specs.Files.{ReadWithin};

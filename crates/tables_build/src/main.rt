@@ -1,5 +1,7 @@
 // Builds the tables of a timetable and writes them to a file, and says what was written, or why nothing was. What is said of the build is fixed in
 // the crate `desk`.
+#![tactic(auto)]
+
 use desk::Made;
 use files::FileRead;
 use kinds::Text;

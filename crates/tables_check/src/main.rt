@@ -1,4 +1,6 @@
 // Checks a tables file against a timetable, and says that it is accepted, or why not. What is said is fixed in the crate `desk`.
+#![tactic(auto)]
+
 use files::FileRead;
 use kinds::Text;
 

@@ -1,4 +1,6 @@
 // The timetable as given numbers: judged as they are, and read ride by ride. No other crate reads the list of runs.
+#![tactic(auto)]
+
 ghost use Rattle.std.specs.Prelude.{◌≡◌, ◌+◌, ◌*◌, ◌≤◌, ◌<◌, length};
 ghost use Rattle.loops.specs.FirstOf.{first_of};
 ghost use Rattle.loops.specs.Tells.{Tells};

@@ -1,4 +1,6 @@
 // The check of tables from anywhere against a timetable's numbers.
+#![tactic(auto)]
+
 ghost use Rattle.std.specs.Prelude.{◌≡◌, ◌+◌, ◌≤◌, ◌<◌, length, get_or};
 ghost use Rattle.loops.specs.Zero.{zeros};
 ghost use Rattle.loops.specs.Tells.{Tells};

@@ -1,5 +1,7 @@
 // Words of a text: where a byte next stands, what a stretch begins with or is, a number, a code.
 // A stretch is a slice with its start and its end, so that every place is counted from the text's first byte.
+#![tactic(auto)]
+
 ghost use Rattle.std.specs.Prelude.{◌≡◌, ◌+◌, ◌≤◌, length};
 ghost use Rattle.loops.specs.Every.{same_b};
 ghost use Rattle.words.specs.Words.{Sought, begins_b, is_word_b, number_at, is_code};

@@ -10,11 +10,11 @@ unfolding ask_line
 returns-in_default c = simp (sym c.shape_of.ensures ∙ c.in_default.is)
 
 pub overflow_sub-first : goal.overflow_sub-first
-overflow_sub-first c = ( (shape_within _ _ _ _ (sym c.shape_of.ensures ∙ c.in-Good.is)
+overflow_sub-first c = ((shape_within _ _ _ _ (sym c.shape_of.ensures ∙ c.in-Good.is)
     c.requires.from_le_to.1)).from_low
 
 pub scan-u-requires : goal.scan-u-requires
-scan-u-requires c = let w =  (shape_within _ _ _ _ (sym c.shape_of.ensures ∙ c.in-Good.is)
+scan-u-requires c = let w = (shape_within _ _ _ _ (sym c.shape_of.ensures ∙ c.in-Good.is)
     c.requires.from_le_to.1) in record { placed = c.requires.placed; n_in_bounds = omega (arith, w.from_low, w.from_high) }
 
 pub returns-then-stops-u : goal.returns-then-stops-u
@@ -22,11 +22,11 @@ unfolding ask_line
 returns-then-stops-u c = simp (sym c.shape_of.ensures ∙ c.in-Good.is, ← c.scan-u.ensures, le-leb _ _ c.if-stops-u.true)
 
 pub overflow_sub-second : goal.overflow_sub-second
-overflow_sub-second c = ( (shape_within _ _ _ _ (sym c.shape_of.ensures ∙ c.in-Good.is)
+overflow_sub-second c = ((shape_within _ _ _ _ (sym c.shape_of.ensures ∙ c.in-Good.is)
     c.requires.from_le_to.1)).to_low
 
 pub scan-v-requires : goal.scan-v-requires
-scan-v-requires c = let w =  (shape_within _ _ _ _ (sym c.shape_of.ensures ∙ c.in-Good.is)
+scan-v-requires c = let w = (shape_within _ _ _ _ (sym c.shape_of.ensures ∙ c.in-Good.is)
     c.requires.from_le_to.1) in record { placed = c.requires.placed; n_in_bounds = omega (arith, w.to_low, w.to_high) }
 
 pub returns-then-stops-v : goal.returns-then-stops-v

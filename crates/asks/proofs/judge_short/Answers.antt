@@ -6,18 +6,18 @@ use Rattle.asks.proofs.judge_short.Goals as goal
 pub returns-then-m2-m : goal.returns-then-m2-m
 unfolding minutes_read
 returns-then-m2-m c = rw (
-      sym c.new-first.ensures ∙ c.in-Good.is,
-      sym c.new-second.ensures ∙ c.in-Good-second.is,
-      lt-ltb _ _ c.if-m2-m.true,
-    ) refl
+  sym c.new-first.ensures ∙ c.in-Good.is,
+  sym c.new-second.ensures ∙ c.in-Good-second.is,
+  lt-ltb _ _ c.if-m2-m.true,
+) refl
 
 pub returns-else-m2-m : goal.returns-else-m2-m
 unfolding minutes_read
 returns-else-m2-m c = rw (
-      sym c.new-first.ensures ∙ c.in-Good.is,
-      sym c.new-second.ensures ∙ c.in-Good-second.is,
-      le-ltb _ _ c.if-m2-m.false,
-    ) refl
+  sym c.new-first.ensures ∙ c.in-Good.is,
+  sym c.new-second.ensures ∙ c.in-Good-second.is,
+  le-ltb _ _ c.if-m2-m.false,
+) refl
 
 pub returns-in-Bad-second : goal.returns-in-Bad-second
 unfolding minutes_read

@@ -10,12 +10,12 @@ returns-in-No-judged c = rw (sym c.judge-read.ensures ∙ c.in-Good.is, sym c.ju
 
 pub returns-then-n-given : goal.returns-then-n-given
 returns-then-n-given c = rw (
-      sym c.judge-read.ensures ∙ c.in-Good.is,
-      sym c.judge-judged.ensures ∙
-          c.in-Good-judged.is,
-      ne_eqb _ _ c.if-n-given.true,
-      c.new.ensures,
-    ) refl
+  sym c.judge-read.ensures ∙ c.in-Good.is,
+  sym c.judge-judged.ensures ∙
+      c.in-Good-judged.is,
+  ne_eqb _ _ c.if-n-given.true,
+  c.new.ensures,
+) refl
 
 pub returns : goal.returns
 returns c = rw (sym c.judge-read.ensures ∙ c.in-Good.is, sym c.judge-judged.ensures ∙ c.in-Good-judged.is, eq-eqb _ _ c.if-n-given.false) refl

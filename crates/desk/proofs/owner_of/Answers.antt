@@ -16,15 +16,15 @@ returns-then-k-ins c = (search rules, c.loop-s.invariant.1, omega (arith, c.if-k
 
 pub loop-s-preserved : goal.loop-s-preserved
 loop-s-preserved c = (
-      omega arith,
-      omega (
-        arith,
-        c.if-k-ins.false,
-        ap (λ (x : Bounds). x.end) c.ins_of-ins.ensures,
-        outs_follow c.args.tables.now
-            c.loop-s.s,
-      ),
-    )
+  omega arith,
+  omega (
+    arith,
+    c.if-k-ins.false,
+    ap (λ (x : Bounds). x.end) c.ins_of-ins.ensures,
+    outs_follow c.args.tables.now
+        c.loop-s.s,
+  ),
+)
 
 pub returns : goal.returns
 returns c = let e : c.loop-s.s ≡ c.args.n = omega (arith, c.loop-s.invariant.0, c.loop-s-test.false) in

@@ -15,12 +15,15 @@ pub change_of-change-requires : goal.change_of-change-requires
 change_of-change-requires c = rw c.label_at-l.ensures (⊎_elim (λ h. inl h) (λ h. inr (c.requires.all_named.stop _ h).listed) (label_pivot c.requires.good_file.0 _ c.ends_of-ends.ensures))
 
 pub label_line-requires : goal.label_line-requires
-label_line-requires c = record { report_room_in_bounds = search rules; code_in = (
-        rw c.code_at-from.ensures (c.requires.all_named.stop _ (label_from c.requires.good_file.0 c.ends_of-ends.ensures)).code,
-        rw c.code_at-to.ensures (c.requires.all_named.stop _ (label_to c.requires.good_file.0 c.ends_of-ends.ensures)).code,
-        rw (c.change_of-change.ensures, c.label_at-l.ensures)
-            (change_in c.requires.all_named (label_at c.args.tables.now c.args.k).pivot (label_pivot c.requires.good_file.0 _ c.ends_of-ends.ensures)),
-      ) }
+label_line-requires c = record {
+  report_room_in_bounds = search rules;
+  code_in = (
+    rw c.code_at-from.ensures (c.requires.all_named.stop _ (label_from c.requires.good_file.0 c.ends_of-ends.ensures)).code,
+    rw c.code_at-to.ensures (c.requires.all_named.stop _ (label_to c.requires.good_file.0 c.ends_of-ends.ensures)).code,
+    rw (c.change_of-change.ensures, c.label_at-l.ensures)
+        (change_in c.requires.all_named (label_at c.args.tables.now c.args.k).pivot (label_pivot c.requires.good_file.0 _ c.ends_of-ends.ensures)),
+  );
+}
 
 pub returns : goal.returns
 returns c = let w = rw (c.code_at-from.ensures, c.code_at-to.ensures, c.change_of-change.ensures, c.label_at-l.ensures) at c.label_line.ensures.wrote in

@@ -14,7 +14,7 @@ slice_bounds-read-end c = sym (length-take-le c.timetable_end-end.result c.args.
 
 pub returns : goal.returns
 returns c = record {
-      value = rw (input_held _ _ _ c.if-input-gt-INPUT_MOST.false, ← c.timetable_end-end.ensures) c.read.ensures.value;
-      runs_after = rw (input_held _ _ _ c.if-input-gt-INPUT_MOST.false, ← c.timetable_end-end.ensures) c.read.ensures.runs_after;
-      codes_after = rw (input_held _ _ _ c.if-input-gt-INPUT_MOST.false, ← c.timetable_end-end.ensures) c.read.ensures.codes_after;
-    }
+  value = rw (input_held _ _ _ c.if-input-gt-INPUT_MOST.false, ← c.timetable_end-end.ensures) c.read.ensures.value;
+  runs_after = rw (input_held _ _ _ c.if-input-gt-INPUT_MOST.false, ← c.timetable_end-end.ensures) c.read.ensures.runs_after;
+  codes_after = rw (input_held _ _ _ c.if-input-gt-INPUT_MOST.false, ← c.timetable_end-end.ensures) c.read.ensures.codes_after;
+}

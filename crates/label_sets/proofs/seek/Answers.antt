@@ -17,10 +17,10 @@ returns-then-is_past c = let s = c.args in
 
 pub loop-k-preserved : goal.loop-k-preserved
 loop-k-preserved c = let s = c.args in (
-      search rules,
-      passed_more c.loop-k.invariant.1
-          (past_false s.tables.now s.hub s.m _ _ c.label_at-l.ensures c.is_past.ensures c.if-is_past.false),
-    )
+  search rules,
+  passed_more c.loop-k.invariant.1
+      (past_false s.tables.now s.hub s.m _ _ c.label_at-l.ensures c.is_past.ensures c.if-is_past.false),
+)
 
 pub returns : goal.returns
 returns c = first_end c.loop-k.invariant.1 (search rules) (search rules)

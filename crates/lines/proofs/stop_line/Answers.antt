@@ -17,21 +17,21 @@ returns-then-j-stops c = simp (le-ltb _ _ c.if-runs-gt0.false, ← c.is_code.ens
 pub returns-then-stops-ge-MOST : goal.returns-then-stops-ge-MOST
 unfolding read_stop_line
 returns-then-stops-ge-MOST c = simp (
-      le-ltb _ _ c.if-runs-gt0.false,
-      ← c.is_code.ensures,
-      c.if-not-is_code.false-raw,
-      ← c.find-j.ensures,
-      le-ltb _ _ c.if-j-stops.false,
-      le-leb _ _ c.if-stops-ge-MOST.true,
-    )
+  le-ltb _ _ c.if-runs-gt0.false,
+  ← c.is_code.ensures,
+  c.if-not-is_code.false-raw,
+  ← c.find-j.ensures,
+  le-ltb _ _ c.if-j-stops.false,
+  le-leb _ _ c.if-stops-ge-MOST.true,
+)
 
 pub returns : goal.returns
 unfolding read_stop_line
 returns c = simp (
-      le-ltb _ _ c.if-runs-gt0.false,
-      ← c.is_code.ensures,
-      c.if-not-is_code.false-raw,
-      ← c.find-j.ensures,
-      le-ltb _ _ c.if-j-stops.false,
-      lt-leb _ _ c.if-stops-ge-MOST.false,
-    )
+  le-ltb _ _ c.if-runs-gt0.false,
+  ← c.is_code.ensures,
+  c.if-not-is_code.false-raw,
+  ← c.find-j.ensures,
+  le-ltb _ _ c.if-j-stops.false,
+  lt-leb _ _ c.if-stops-ge-MOST.false,
+)

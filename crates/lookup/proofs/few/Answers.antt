@@ -11,6 +11,6 @@ returns-then-k-eq0 c = (simp (eq-eqb _ _ c.if-k-eq0.true), omega arith)
 pub returns : goal.returns
 unfolding few_at
 returns c = (
-      rw (ne_eqb _ _ c.if-k-eq0.false, add-zero, c.wide.ensures.0, c.wide-2.ensures.0, c.wide-3.ensures.0),
-      omega (arith, c.wide.ensures.1, c.wide-2.ensures.1, c.wide-3.ensures.1),
-    )
+  rw (ne_eqb _ _ c.if-k-eq0.false, add-zero, c.wide.ensures.0, c.wide-2.ensures.0, c.wide-3.ensures.0),
+  omega (arith, c.wide.ensures.1, c.wide-2.ensures.1, c.wide-3.ensures.1),
+)

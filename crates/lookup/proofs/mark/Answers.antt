@@ -13,6 +13,6 @@ end_words-e-requires c = omega (arith, c.marked_bytes-k.ensures, marked_few c.ar
 pub returns : goal.returns
 unfolding mark_of_bytes
 returns c = let small = c.mixed-z.ensures.1 in (
-      rw (← c.marked_bytes-k.ensures, ← c.but_last.ensures, ← c.blocks-m.ensures.0, ← c.end_words-e.ensures.0, ← c.mixed-z.ensures.0),
-      omega (arith, small.a_low, small.b_low, small.c_low, small.d_low),
-    )
+  rw (← c.marked_bytes-k.ensures, ← c.but_last.ensures, ← c.blocks-m.ensures.0, ← c.end_words-e.ensures.0, ← c.mixed-z.ensures.0),
+  omega (arith, small.a_low, small.b_low, small.c_low, small.d_low),
+)

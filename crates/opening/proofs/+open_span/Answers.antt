@@ -27,8 +27,7 @@ halves-parted-requires t c = record { started = c.requires.ground.started; span_
 -- the first label
 pub open_span-a-requires : goal.open_span-a-requires
 open_span-a-requires t c =
-    let M = rw c.in-Met.is at c.halves-parted.ensures in
-    (
+    let M = rw c.in-Met.is at c.halves-parted.ensures in (
       omega (arith, first_shorter c.requires.ground.started M),
       (c.requires.ground, first_in c.requires.ground.started M),
     )
@@ -40,8 +39,7 @@ offset_bounds-list-start t c = omega (arith, c.lesser_usize-start.ensures, c.ope
 -- the second label
 pub open_span-b-requires : goal.open_span-b-requires
 open_span-b-requires t c =
-    let M = rw c.in-Met.is at c.halves-parted.ensures in
-    (
+    let M = rw c.in-Met.is at c.halves-parted.ensures in (
       omega (arith, second_shorter c.requires.ground.started M),
       (c.requires.ground, second_in c.requires.ground.started M),
     )

@@ -12,11 +12,10 @@ returns-then-n-lt10 t c = wrote_digit _ _ _ c.if-n-lt10.true
 
 -- the tenth, and one digit more
 pub put_decimal-last-requires : goal.put_decimal-last-requires
-put_decimal-last-requires t c =
-    (
-      omega arith,
-      omega (arith, c.requires, decimal_tenth c.args.n c.if-n-lt10.false (omega (arith, c.ranges.n.fits))),
-    )
+put_decimal-last-requires t c = (
+  omega arith,
+  omega (arith, c.requires, decimal_tenth c.args.n c.if-n-lt10.false (omega (arith, c.ranges.n.fits))),
+)
 
 pub bounds-out-last : goal.bounds-out-last
 bounds-out-last t c =

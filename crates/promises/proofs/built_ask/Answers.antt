@@ -13,12 +13,18 @@ slice_bounds-answered-end-in-Built c = let e = wrote _ _ _ _ c.build-answer.ensu
     sym (length-take-le _ _ (omega (arith, e.fits, e.few, c.build-answer.auto.work)))
 
 pub returns-in-At : goal.returns-in-At
-returns-in-At c = record { built_ask = asked_built _ _ _ _ c.build-answer.ensures.build_of (λ i. omega (arith, c.slice_known-3-1.given i)) _ _ _ c.in-Built.is c.in-At.is
-          c.answered-asked.ensures refl; work_after = c.build-answer.ensures.work_after }
+returns-in-At c = record {
+  built_ask = asked_built _ _ _ _ c.build-answer.ensures.build_of (λ i. omega (arith, c.slice_known-3-1.given i)) _ _ _ c.in-Built.is c.in-At.is
+      c.answered-asked.ensures refl;
+  work_after = c.build-answer.ensures.work_after;
+}
 
 pub returns-in-No-asked : goal.returns-in-No-asked
-returns-in-No-asked c = record { built_ask = asked_built _ _ _ _ c.build-answer.ensures.build_of (λ i. omega (arith, c.slice_known-3-1.given i)) _ _ _ c.in-Built.is c.in-No-asked.is
-          c.answered-asked.ensures c.zero_u8.ensures; work_after = c.build-answer.ensures.work_after }
+returns-in-No-asked c = record {
+  built_ask = asked_built _ _ _ _ c.build-answer.ensures.build_of (λ i. omega (arith, c.slice_known-3-1.given i)) _ _ _ c.in-Built.is c.in-No-asked.is
+      c.answered-asked.ensures c.zero_u8.ensures;
+  work_after = c.build-answer.ensures.work_after;
+}
 
 pub returns-in-No : goal.returns-in-No
 returns-in-No c = record { built_ask = asked_refused _ _ _ _ c.build-answer.ensures.build_of (λ i. omega (arith, c.slice_known-3-1.given i)) _ _ _ c.in-No.is (refused_zero c.build-answer.ensures.build_of c.in-No.is); work_after = c.build-answer.ensures.work_after }

@@ -22,5 +22,5 @@ returns-in-No c = let o : ReadOutcome = read_text c.args.text.now (length c.args
     let value = rw (c.zero_u32.auto.s, c.zero_u32-2.auto.s) at c.read_text-a.ensures.value in
     let e = sym c.in-No.is ∙ value in
     let f = filled_refused o c.args.runs.now c.args.codes.now _ e in
-    let runs = zeros_as _ c.args.runs.now c.zero_u32-in-No.ensures ( (search rules)) ∙ f.0 in
-    let codes = zeros_as _ c.args.codes.now c.zero_u32-in-No-2.ensures ( (search rules)) ∙ f.1 in record { value = e; runs_after = runs; codes_after = codes }
+    let runs = zeros_as _ c.args.runs.now c.zero_u32-in-No.ensures ((search rules)) ∙ f.0 in
+    let codes = zeros_as _ c.args.codes.now c.zero_u32-in-No-2.ensures ((search rules)) ∙ f.1 in record { value = e; runs_after = runs; codes_after = codes }

@@ -14,13 +14,16 @@ line_at-l-requires c = record { codes_indexed = c.loop-from.invariant.index; str
 
 pub enter-requires : goal.enter-requires
 enter-requires c = let e = sym c.line_at-l.ensures ∙ c.in-Stop.is in
-    let fine = stop_known _ _ _ _ _ _ _ c.seek-end.ensures.low e in record { codes_indexed = c.loop-from.invariant.index; enterable = record {
+    let fine = stop_known _ _ _ _ _ _ _ c.seek-end.ensures.low e in record {
+      codes_indexed = c.loop-from.invariant.index;
+      enterable = record {
         few = fine.few;
         room = omega (arith, fine.few, c.loop-from.invariant.codes_same, c.requires.codes_long);
         within = omega (arith, fine.ends, c.seek-end.ensures.high);
         short = c.requires.short;
         new = named_none _ _ _ _ _ _ fine.new;
-      } }
+      };
+    }
 
 pub overflow_add-at : goal.overflow_add-at
 overflow_add-at c = omega (arith, c.if-text-end.false)

@@ -5,8 +5,11 @@ use Rattle.report.proofs.entry_line.Goals as goal
 
 pub returns : goal.returns
 unfolding entry_line
-returns c = record { wrote = wrote_then c.put_counted-a.ensures.wrote
-          (wrote_then c.put_set-b.ensures.wrote
-          (wrote_then c.put_counted-c.ensures.wrote
-          (wrote_then c.put_times-d.ensures.wrote
-          (wrote_then c.put_pivot-e.ensures.wrote c.put_lf.ensures)))); upper_bound = search rules }
+returns c = record {
+  wrote = wrote_then c.put_counted-a.ensures.wrote
+      (wrote_then c.put_set-b.ensures.wrote
+      (wrote_then c.put_counted-c.ensures.wrote
+      (wrote_then c.put_times-d.ensures.wrote
+      (wrote_then c.put_pivot-e.ensures.wrote c.put_lf.ensures))));
+  upper_bound = search rules;
+}

@@ -5,8 +5,11 @@ use Rattle.report.proofs.label_line.Goals as goal
 
 pub returns : goal.returns
 unfolding label_line
-returns c = record { wrote = wrote_then c.put_counted-a.ensures.wrote
-          (wrote_then c.put_named-b.ensures.wrote
-          (wrote_then c.put_named-c.ensures.wrote
-          (wrote_then c.put_times-d.ensures.wrote
-          (wrote_then c.put_change-e.ensures.wrote c.put_lf.ensures)))); upper_bound = search rules }
+returns c = record {
+  wrote = wrote_then c.put_counted-a.ensures.wrote
+      (wrote_then c.put_named-b.ensures.wrote
+      (wrote_then c.put_named-c.ensures.wrote
+      (wrote_then c.put_times-d.ensures.wrote
+      (wrote_then c.put_change-e.ensures.wrote c.put_lf.ensures))));
+  upper_bound = search rules;
+}

@@ -5,6 +5,9 @@ use Rattle.report.proofs.more_line.Goals as goal
 
 pub returns : goal.returns
 unfolding more_line
-returns c = record { wrote = wrote_then c.put_text-a.ensures
-          (wrote_then c.put_counted-b.ensures.wrote
-          (wrote_then c.put_text-c.ensures c.put_lf.ensures)); upper_bound = search rules }
+returns c = record {
+  wrote = wrote_then c.put_text-a.ensures
+      (wrote_then c.put_counted-b.ensures.wrote
+      (wrote_then c.put_text-c.ensures c.put_lf.ensures));
+  upper_bound = search rules;
+}

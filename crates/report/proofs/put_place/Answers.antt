@@ -18,5 +18,8 @@ pub returns-then-r-eq-GAP : goal.returns-then-r-eq-GAP
 returns-then-r-eq-GAP c = let w = wrote_then c.put_counted-a.ensures.wrote c.put_counted-then-r-eq-GAP.ensures.wrote in record { wrote = rw (lt-leb _ _ c.if-r-le-OVER_LIMIT.false, ne_eqb _ _ c.if-r-eq-LABEL_BAD.false, ne_eqb _ _ c.if-r-eq-UNSUPPORTED.false, c.if-r-eq-GAP.true) w; upper_bound = search rules }
 
 pub returns : goal.returns
-returns c = record { wrote = rw (lt-leb _ _ c.if-r-le-OVER_LIMIT.false, ne_eqb _ _ c.if-r-eq-LABEL_BAD.false, ne_eqb _ _ c.if-r-eq-UNSUPPORTED.false, ne_eqb _ _ c.if-r-eq-GAP.false)
-          (record { is = refl; end = omega arith }); upper_bound = omega arith }
+returns c = record {
+  wrote = rw (lt-leb _ _ c.if-r-le-OVER_LIMIT.false, ne_eqb _ _ c.if-r-eq-LABEL_BAD.false, ne_eqb _ _ c.if-r-eq-UNSUPPORTED.false, ne_eqb _ _ c.if-r-eq-GAP.false)
+      (record { is = refl; end = omega arith });
+  upper_bound = omega arith;
+}

@@ -5,7 +5,10 @@ use Rattle.report.proofs.run_line.Goals as goal
 
 pub returns : goal.returns
 unfolding numbered_run
-returns c = record { wrote = wrote_then c.put_counted-a.ensures.wrote
-          (wrote_then c.put_named-b.ensures.wrote
-          (wrote_then c.put_code-c.ensures.wrote
-          (wrote_then c.put_run_numbers-d.ensures.wrote c.put_lf.ensures))); upper_bound = search rules }
+returns c = record {
+  wrote = wrote_then c.put_counted-a.ensures.wrote
+      (wrote_then c.put_named-b.ensures.wrote
+      (wrote_then c.put_code-c.ensures.wrote
+      (wrote_then c.put_run_numbers-d.ensures.wrote c.put_lf.ensures)));
+  upper_bound = search rules;
+}

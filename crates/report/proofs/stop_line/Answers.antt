@@ -5,5 +5,8 @@ use Rattle.report.proofs.stop_line.Goals as goal
 
 pub returns : goal.returns
 unfolding numbered_stop
-returns c = record { wrote = wrote_then c.put_counted-a.ensures.wrote
-          (wrote_then c.put_named-b.ensures.wrote c.put_lf.ensures); upper_bound = search rules }
+returns c = record {
+  wrote = wrote_then c.put_counted-a.ensures.wrote
+      (wrote_then c.put_named-b.ensures.wrote c.put_lf.ensures);
+  upper_bound = search rules;
+}

@@ -5,8 +5,11 @@ use Rattle.report.proofs.written_line.Goals as goal
 
 pub returns : goal.returns
 unfolding written_line
-returns c = record { wrote = wrote_then c.put_counted-a.ensures.wrote
-          (wrote_then c.put_counted-b.ensures.wrote
-          (wrote_then c.put_counted-c.ensures.wrote
-          (wrote_then c.put_counted-d.ensures.wrote
-          (wrote_then c.put_text-e.ensures c.put_lf.ensures)))); upper_bound = search rules }
+returns c = record {
+  wrote = wrote_then c.put_counted-a.ensures.wrote
+      (wrote_then c.put_counted-b.ensures.wrote
+      (wrote_then c.put_counted-c.ensures.wrote
+      (wrote_then c.put_counted-d.ensures.wrote
+      (wrote_then c.put_text-e.ensures c.put_lf.ensures))));
+  upper_bound = search rules;
+}

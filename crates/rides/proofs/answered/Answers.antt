@@ -16,5 +16,8 @@ pub returns-in-No : goal.returns-in-No
 returns-in-No c = record { lists = rw (sym c.judge-judged.ensures ∙ c.in-No.is) (refl, c.zero_u32.ensures); work_after = c.zero_u16.ensures }
 
 pub returns-in-Good : goal.returns-in-Good
-returns-in-Good c = record { lists = rw (sym c.judge-judged.ensures ∙ c.in-Good.is)
-          (lists_over _ _ _ _ _ _ c.list_best-answer.result c.zero_u32.ensures c.list_best-answer.ensures); work_after = zeros_as _ _ c.zero_u16-in-Good.ensures (c.zero_u16-in-Good.auto.s ∙ c.prepare.auto.work) }
+returns-in-Good c = record {
+  lists = rw (sym c.judge-judged.ensures ∙ c.in-Good.is)
+      (lists_over _ _ _ _ _ _ c.list_best-answer.result c.zero_u32.ensures c.list_best-answer.ensures);
+  work_after = zeros_as _ _ c.zero_u16-in-Good.ensures (c.zero_u16-in-Good.auto.s ∙ c.prepare.auto.work);
+}

@@ -7,11 +7,10 @@ use Rattle.rides.specs.ListsLaws.{few_rides, listed_of}
 use Rattle.rides.proofs.list_pair.Goals as goal
 
 pub returns-then-list-k : goal.returns-then-list-k
-returns-then-list-k c = let L = rw c.in-Rides.is at c.open_answer-opened.ensures in
-    (
-      short c.new-then-list-k.ensures _ _ c.requires.best L.rides L.are (omega (arith, L.count, c.if-list-k.true, c.open_answer-opened.auto.list)),
-      zeros_as _ _ c.zero_u32.ensures (c.zero_u32.auto.s ∙ c.open_answer-opened.auto.list),
-    )
+returns-then-list-k c = let L = rw c.in-Rides.is at c.open_answer-opened.ensures in (
+  short c.new-then-list-k.ensures _ _ c.requires.best L.rides L.are (omega (arith, L.count, c.if-list-k.true, c.open_answer-opened.auto.list)),
+  zeros_as _ _ c.zero_u32.ensures (c.zero_u32.auto.s ∙ c.open_answer-opened.auto.list),
+)
 
 pub overflow_cast-result : goal.overflow_cast-result
 overflow_cast-result c = let L = rw c.in-Rides.is at c.open_answer-opened.ensures in

@@ -28,12 +28,12 @@ mark-requires c = let R = read_ride c.loop-i.invariant.2.both.numbers _
 pub loop-i-preserved : goal.loop-i-preserved
 loop-i-preserved c = let le : c.loop-i.i + 1 ≤ c.slots-slots.result = omega (arith, c.loop-i-test.true) in
     elim c.match-read.branch [
-      in-InForce w ↦
-        let W = subst (MarkedWith _ _ _ _) (sym w.room-is) w.mark.ensures in
-        let R = read_ride c.loop-i.invariant.2.both.numbers _ (omega (arith, c.slots-slots.ensures.value, c.loop-i-test.true)) (sym c.ride_at-read.ensures ∙ w.in-InForce.is) in
-        (le, W.long ∙ c.loop-i.invariant.1, marks_more c.loop-i.invariant.2 R W)
-    | in-NotInForce w ↦
-        (le, ap length w.room-is ∙ c.loop-i.invariant.1, marks_idle c.loop-i.invariant.2 w.room-is (read_none c.loop-i.invariant.2.both.numbers _ (sym c.ride_at-read.ensures ∙ w.in-NotInForce.is)))
+      | in-InForce w ↦
+          let W = subst (MarkedWith _ _ _ _) (sym w.room-is) w.mark.ensures in
+          let R = read_ride c.loop-i.invariant.2.both.numbers _ (omega (arith, c.slots-slots.ensures.value, c.loop-i-test.true)) (sym c.ride_at-read.ensures ∙ w.in-InForce.is) in
+          (le, W.long ∙ c.loop-i.invariant.1, marks_more c.loop-i.invariant.2 R W)
+      | in-NotInForce w ↦
+          (le, ap length w.room-is ∙ c.loop-i.invariant.1, marks_idle c.loop-i.invariant.2 w.room-is (read_none c.loop-i.invariant.2.both.numbers _ (sym c.ride_at-read.ensures ∙ w.in-NotInForce.is)))
     ]
 
 pub shape_of-room : goal.shape_of-room

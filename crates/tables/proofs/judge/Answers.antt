@@ -16,12 +16,12 @@ returns-then-bytes-ne-MARK c = simp (le-leb _ _ c.if-bytes-lt-HEADER.false, ne_e
 pub returns-then-not-is_count : goal.returns-then-not-is_count
 unfolding judged_tables
 returns-then-not-is_count c = simp (
-      le-leb _ _ c.if-bytes-lt-HEADER.false,
-      eq-eqb _ _ c.if-bytes-ne-MARK.false,
-      sym c.stop_count-n.ensures,
-      sym c.is_count.ensures ∙ not-true _ c.if-not-is_count.true-raw,
-      c.new-then-not-is_count.ensures,
-    )
+  le-leb _ _ c.if-bytes-lt-HEADER.false,
+  eq-eqb _ _ c.if-bytes-ne-MARK.false,
+  sym c.stop_count-n.ensures,
+  sym c.is_count.ensures ∙ not-true _ c.if-not-is_count.true-raw,
+  c.new-then-not-is_count.ensures,
+)
 
 pub judge_contents-requires : goal.judge_contents-requires
 judge_contents-requires c = record { bytes_value = sym c.stop_count-n.ensures; n_le_most_stops = (stop_count _ (sym c.is_count.ensures ∙ not-false _ c.if-not-is_count.false-raw)).1 }
@@ -29,9 +29,9 @@ judge_contents-requires c = record { bytes_value = sym c.stop_count-n.ensures; n
 pub returns : goal.returns
 unfolding judged_tables
 returns c = simp (
-      le-leb _ _ c.if-bytes-lt-HEADER.false,
-      eq-eqb _ _ c.if-bytes-ne-MARK.false,
-      ap is_stop_count (sym c.stop_count-n.ensures) ∙ sym c.is_count.ensures ∙ not-false _
-          c.if-not-is_count.false-raw,
-      c.judge_contents.ensures,
-    )
+  le-leb _ _ c.if-bytes-lt-HEADER.false,
+  eq-eqb _ _ c.if-bytes-ne-MARK.false,
+  ap is_stop_count (sym c.stop_count-n.ensures) ∙ sym c.is_count.ensures ∙ not-false _
+      c.if-not-is_count.false-raw,
+  c.judge_contents.ensures,
+)

@@ -18,10 +18,10 @@ returns-then-not-good_label c = let e = good_to_bad c.loop-i.invariant.1 c.requi
 
 pub loop-i-preserved : goal.loop-i-preserved
 loop-i-preserved c = (
-      search rules,
-      good_to_more c.loop-i.invariant.1 c.requires.room.contents.stops c.requires.start_value c.label_at-l.ensures c.good_label.ensures
-          (not-false _ c.if-not-good_label.false-raw),
-    )
+  search rules,
+  good_to_more c.loop-i.invariant.1 c.requires.room.contents.stops c.requires.start_value c.label_at-l.ensures c.good_label.ensures
+      (not-false _ c.if-not-good_label.false-raw),
+)
 
 pub returns : goal.returns
 returns c = let e : c.args.count ≡ c.loop-i.i = omega arith in

@@ -27,10 +27,10 @@ overflow_add-start c = let lt : c.loop-set.set < 2 * stops_of c.args.bytes.now =
 
 pub loop-set-preserved : goal.loop-set-preserved
 loop-set-preserved c = (
-      omega (arith, c.loop-set-test.true),
-      omega (arith, start_more c.args.bytes.now c.loop-set.set, c.loop-set.invariant.1, c.count_of-count.ensures),
-      first_of_more _ _ c.loop-set.invariant.2 (read_good _ (sym c.judge_set-read.ensures ∙ c.in-AllGood.is)),
-    )
+  omega (arith, c.loop-set-test.true),
+  omega (arith, start_more c.args.bytes.now c.loop-set.set, c.loop-set.invariant.1, c.count_of-count.ensures),
+  first_of_more _ _ c.loop-set.invariant.2 (read_good _ (sym c.judge_set-read.ensures ∙ c.in-AllGood.is)),
+)
 
 pub returns : goal.returns
 returns c = let e : 2 * stops_of c.args.bytes.now ≡ c.loop-set.set = omega arith in

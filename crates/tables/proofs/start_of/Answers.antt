@@ -13,10 +13,10 @@ overflow_add-start c = omega (arith, c.shared_slice_known-1.given (2 + 2 * c.loo
 
 pub loop-j-preserved : goal.loop-j-preserved
 loop-j-preserved c = (
-      search rules,
-      omega (arith, start_more c.args.bytes.now c.loop-j.j),
-      omega (arith, c.shared_slice_known-1.given (2 + 2 * c.loop-j.j), c.shared_slice_known-1.given (2 + 2 * c.loop-j.j + 1)),
-    )
+  search rules,
+  omega (arith, start_more c.args.bytes.now c.loop-j.j),
+  omega (arith, c.shared_slice_known-1.given (2 + 2 * c.loop-j.j), c.shared_slice_known-1.given (2 + 2 * c.loop-j.j + 1)),
+)
 
 pub returns : goal.returns
 returns c = let e : c.loop-j.j ≡ c.args.set = omega arith in

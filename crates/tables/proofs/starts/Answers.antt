@@ -18,12 +18,12 @@ overflow_add-start c = omega (arith, set_within {set = c.loop-set.set} c.require
 
 pub loop-set-preserved : goal.loop-set-preserved
 loop-set-preserved c = record {
-      within = search rules;
-      next = omega (arith, start_more c.args.bytes.now c.loop-set.set, c.loop-set.invariant.next, c.count_of-start.ensures);
-      few = omega (arith, set_within {set = c.loop-set.set} c.requires.room.contents (search rules));
-      long = simp length-set c.loop-set.invariant.long;
-      is = ap₂ (λ (r : List ℕ) (v : ℕ). set r c.loop-set.set v) c.loop-set.invariant.is c.loop-set.invariant.next ∙ sym (filled_more _ _ _);
-    }
+  within = search rules;
+  next = omega (arith, start_more c.args.bytes.now c.loop-set.set, c.loop-set.invariant.next, c.count_of-start.ensures);
+  few = omega (arith, set_within {set = c.loop-set.set} c.requires.room.contents (search rules));
+  long = simp length-set c.loop-set.invariant.long;
+  is = ap₂ (λ (r : List ℕ) (v : ℕ). set r c.loop-set.set v) c.loop-set.invariant.is c.loop-set.invariant.next ∙ sym (filled_more _ _ _);
+}
 
 pub shape_of-room : goal.shape_of-room
 shape_of-room c = simp length-set c.loop-set.invariant.long

@@ -12,11 +12,11 @@ put_two-requires-2 c = omega (arith, simp length-set at c.put_two.auto.bytes)
 
 pub bounds-bytes-at-2 : goal.bounds-bytes-at-2
 bounds-bytes-at-2 c = omega (
-      arith,
-      c.put_two-2.auto.bytes,
-      simp length-set at
-          c.put_two.auto.bytes,
-    )
+  arith,
+  c.put_two-2.auto.bytes,
+  simp length-set at
+      c.put_two.auto.bytes,
+)
 
 pub shape_of-bytes : goal.shape_of-bytes
 shape_of-bytes c = simp length-set (c.put_two-2.auto.bytes ∙ simp length-set at

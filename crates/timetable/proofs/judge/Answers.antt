@@ -15,23 +15,23 @@ returns-then-not-is_count-2 c = simp (sym c.is_count.ensures ∙ not-false _ c.i
 pub returns-then-runs-count : goal.returns-then-runs-count
 unfolding judged_of
 returns-then-runs-count c = simp (
-      sym c.is_count.ensures ∙ not-false _ c.if-not-is_count.false-raw,
-      sym c.is_count-2.ensures ∙
-          not-false _ c.if-not-is_count-2.false-raw,
-      lt-leb _ _ c.if-runs-count.true,
-      c.new-then-runs-count.ensures,
-    )
+  sym c.is_count.ensures ∙ not-false _ c.if-not-is_count.false-raw,
+  sym c.is_count-2.ensures ∙
+      not-false _ c.if-not-is_count-2.false-raw,
+  lt-leb _ _ c.if-runs-count.true,
+  c.new-then-runs-count.ensures,
+)
 
 pub returns-then-lent-needed : goal.returns-then-lent-needed
 unfolding judged_of
 returns-then-lent-needed c = simp (
-      sym c.is_count.ensures ∙ not-false _ c.if-not-is_count.false-raw,
-      sym c.is_count-2.ensures ∙
-          not-false _ c.if-not-is_count-2.false-raw,
-      le-leb _ _ c.if-runs-count.false,
-      lt-leb _ _ c.if-lent-needed.true,
-      c.new-then-lent-needed.ensures,
-    )
+  sym c.is_count.ensures ∙ not-false _ c.if-not-is_count.false-raw,
+  sym c.is_count-2.ensures ∙
+      not-false _ c.if-not-is_count-2.false-raw,
+  le-leb _ _ c.if-runs-count.false,
+  lt-leb _ _ c.if-lent-needed.true,
+  c.new-then-lent-needed.ensures,
+)
 
 pub judge_runs-requires : goal.judge_runs-requires
 judge_runs-requires c = record { stops_le_most_stops = (stop_count _ (sym c.is_count.ensures ∙ not-false _ c.if-not-is_count.false-raw)).1; count_le_most_runs = run_count _ (sym c.is_count-2.ensures ∙ not-false _ c.if-not-is_count-2.false-raw); count_in_bounds = c.if-runs-count.false }
@@ -39,10 +39,10 @@ judge_runs-requires c = record { stops_le_most_stops = (stop_count _ (sym c.is_c
 pub returns : goal.returns
 unfolding judged_of
 returns c = simp (
-      sym c.is_count.ensures ∙ not-false _ c.if-not-is_count.false-raw,
-      sym c.is_count-2.ensures ∙
-          not-false _ c.if-not-is_count-2.false-raw,
-      le-leb _ _ c.if-runs-count.false,
-      le-leb _ _ c.if-lent-needed.false,
-      c.judge_runs.ensures,
-    )
+  sym c.is_count.ensures ∙ not-false _ c.if-not-is_count.false-raw,
+  sym c.is_count-2.ensures ∙
+      not-false _ c.if-not-is_count-2.false-raw,
+  le-leb _ _ c.if-runs-count.false,
+  le-leb _ _ c.if-lent-needed.false,
+  c.judge_runs.ensures,
+)

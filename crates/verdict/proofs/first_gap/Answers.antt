@@ -36,17 +36,17 @@ loop-v-preserved c = stops_more c.loop-v.invariant c.loop-v-test.true c.no_gap.e
 pub search-preserved : goal.search-preserved
 search-preserved c = let n = service_slots c.args.given c.args.runs.now in
     elim c.match-read.branch [
-      in-NotInForce w ↦
-        let f = read_none c.requires.both_good.numbers _ (sym c.ride_at-read.ensures ∙ w.in-NotInForce.is) in
-        (ap length w.room-is ∙ c.search.invariant.0, searched_idle c.search.invariant.1 w.room-is (omega (arith, n, c.slots-slots.ensures.value, c.search-test.true)) f)
-    | in-InForce+else-loop-v-test w ↦ (ap length w.room-is ∙ w.reach_both.auto.room ∙ c.search.invariant.0, stops_end w.loop-v.invariant w.room-is w.loop-v-test.false)
+      | in-NotInForce w ↦
+          let f = read_none c.requires.both_good.numbers _ (sym c.ride_at-read.ensures ∙ w.in-NotInForce.is) in
+          (ap length w.room-is ∙ c.search.invariant.0, searched_idle c.search.invariant.1 w.room-is (omega (arith, n, c.slots-slots.ensures.value, c.search-test.true)) f)
+      | in-InForce+else-loop-v-test w ↦ (ap length w.room-is ∙ w.reach_both.auto.room ∙ c.search.invariant.0, stops_end w.loop-v.invariant w.room-is w.loop-v-test.false)
     ]
 
 pub returns-then-i-slots : goal.returns-then-i-slots
 returns-then-i-slots c =
     elim c.search-test.branch [
-      else-search-test w ↦ absurd (omega (arith, w.search-test.false, c.if-i-slots.true))
-    | then-search-test+in-InForce+then-loop-v-test+then-not-no_gap w ↦ rw w.v-is (stops_fail w.loop-v.invariant w.loop-v-test.true w.no_gap.ensures (not-true _ w.if-not-no_gap.true-raw))
+      | else-search-test w ↦ absurd (omega (arith, w.search-test.false, c.if-i-slots.true))
+      | then-search-test+in-InForce+then-loop-v-test+then-not-no_gap w ↦ rw w.v-is (stops_fail w.loop-v.invariant w.loop-v-test.true w.no_gap.ensures (not-true _ w.if-not-no_gap.true-raw))
     ]
 
 pub returns : goal.returns

@@ -25,12 +25,12 @@ returns-then-n-eq1 c = let z = c.args in
 pub returns-then-s-from-eq48 : goal.returns-then-s-from-eq48
 unfolding number_at is_number
 returns-then-s-from-eq48 c = simp (
-      ← c.seek-end.ensures.is,
-      ne_eqb _ _ c.if-n-eq0.false,
-      le-ltb _ _ c.if-n-gt5.false,
-      eq-eqb _ _ c.if-s-from-eq48.true,
-      ne_eqb _ _ c.if-n-eq1.false,
-    )
+  ← c.seek-end.ensures.is,
+  ne_eqb _ _ c.if-n-eq0.false,
+  le-ltb _ _ c.if-n-gt5.false,
+  eq-eqb _ _ c.if-s-from-eq48.true,
+  ne_eqb _ _ c.if-n-eq1.false,
+)
 
 pub returns-in-Value : goal.returns-in-Value
 unfolding number_at is_number

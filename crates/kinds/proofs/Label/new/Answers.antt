@@ -17,53 +17,53 @@ returns-then-arr-gt-LAST c = simp (lt-leb _ _ c.if-owner-hub.false, lt-leb _ _ c
 pub returns-then-pivot-eq-NO_PIVOT : goal.returns-then-pivot-eq-NO_PIVOT
 unfolding label_of
 returns-then-pivot-eq-NO_PIVOT c = simp (
-      lt-leb _ _ c.if-owner-hub.false,
-      lt-leb _ _ c.if-arr-dep.false,
-      le-ltb _ _ c.if-arr-gt-LAST.false,
-      eq-eqb _ _ c.if-pivot-eq-NO_PIVOT.true,
-    )
+  lt-leb _ _ c.if-owner-hub.false,
+  lt-leb _ _ c.if-arr-dep.false,
+  le-ltb _ _ c.if-arr-gt-LAST.false,
+  eq-eqb _ _ c.if-pivot-eq-NO_PIVOT.true,
+)
 
 pub returns-then-pivot-hub : goal.returns-then-pivot-hub
 unfolding label_of
 returns-then-pivot-hub c = simp (
-      lt-leb _ _ c.if-owner-hub.false,
-      lt-leb _ _ c.if-arr-dep.false,
-      le-ltb _ _ c.if-arr-gt-LAST.false,
-      ne_eqb _ _ c.if-pivot-eq-NO_PIVOT.false,
-      le-leb _ _ c.if-pivot-hub.true,
-    )
+  lt-leb _ _ c.if-owner-hub.false,
+  lt-leb _ _ c.if-arr-dep.false,
+  le-ltb _ _ c.if-arr-gt-LAST.false,
+  ne_eqb _ _ c.if-pivot-eq-NO_PIVOT.false,
+  le-leb _ _ c.if-pivot-hub.true,
+)
 
 pub returns-then-stops-pivot : goal.returns-then-stops-pivot
 unfolding label_of
 returns-then-stops-pivot c = simp (
-      lt-leb _ _ c.if-owner-hub.false,
-      lt-leb _ _ c.if-arr-dep.false,
-      le-ltb _ _ c.if-arr-gt-LAST.false,
-      ne_eqb _ _ c.if-pivot-eq-NO_PIVOT.false,
-      lt-leb _ _ c.if-pivot-hub.false,
-      le-leb _ _ c.if-stops-pivot.true,
-    )
+  lt-leb _ _ c.if-owner-hub.false,
+  lt-leb _ _ c.if-arr-dep.false,
+  le-ltb _ _ c.if-arr-gt-LAST.false,
+  ne_eqb _ _ c.if-pivot-eq-NO_PIVOT.false,
+  lt-leb _ _ c.if-pivot-hub.false,
+  le-leb _ _ c.if-stops-pivot.true,
+)
 
 pub returns-then-pivot-owner : goal.returns-then-pivot-owner
 unfolding label_of
 returns-then-pivot-owner c = simp (
-      lt-leb _ _ c.if-owner-hub.false,
-      lt-leb _ _ c.if-arr-dep.false,
-      le-ltb _ _ c.if-arr-gt-LAST.false,
-      ne_eqb _ _ c.if-pivot-eq-NO_PIVOT.false,
-      lt-leb _ _ c.if-pivot-hub.false,
-      lt-leb _ _ c.if-stops-pivot.false,
-      eq-eqb _ _ c.if-pivot-owner.true,
-    )
+  lt-leb _ _ c.if-owner-hub.false,
+  lt-leb _ _ c.if-arr-dep.false,
+  le-ltb _ _ c.if-arr-gt-LAST.false,
+  ne_eqb _ _ c.if-pivot-eq-NO_PIVOT.false,
+  lt-leb _ _ c.if-pivot-hub.false,
+  lt-leb _ _ c.if-stops-pivot.false,
+  eq-eqb _ _ c.if-pivot-owner.true,
+)
 
 pub returns : goal.returns
 unfolding label_of
 returns c = simp (
-      lt-leb _ _ c.if-owner-hub.false,
-      lt-leb _ _ c.if-arr-dep.false,
-      le-ltb _ _ c.if-arr-gt-LAST.false,
-      ne_eqb _ _ c.if-pivot-eq-NO_PIVOT.false,
-      lt-leb _ _ c.if-pivot-hub.false,
-      lt-leb _ _ c.if-stops-pivot.false,
-      ne_eqb _ _ c.if-pivot-owner.false,
-    )
+  lt-leb _ _ c.if-owner-hub.false,
+  lt-leb _ _ c.if-arr-dep.false,
+  le-ltb _ _ c.if-arr-gt-LAST.false,
+  ne_eqb _ _ c.if-pivot-eq-NO_PIVOT.false,
+  lt-leb _ _ c.if-pivot-hub.false,
+  lt-leb _ _ c.if-stops-pivot.false,
+  ne_eqb _ _ c.if-pivot-owner.false,
+)

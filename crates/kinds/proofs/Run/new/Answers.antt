@@ -17,53 +17,53 @@ returns-then-from-to c = simp (lt-leb _ _ c.if-stops-from.false, lt-leb _ _ c.if
 pub returns-then-arr-dep : goal.returns-then-arr-dep
 unfolding run_of
 returns-then-arr-dep c = simp (
-      lt-leb _ _ c.if-stops-from.false,
-      lt-leb _ _ c.if-stops-to.false,
-      ne_eqb _ _ c.if-from-to.false,
-      le-leb _ _ c.if-arr-dep.true,
-    )
+  lt-leb _ _ c.if-stops-from.false,
+  lt-leb _ _ c.if-stops-to.false,
+  ne_eqb _ _ c.if-from-to.false,
+  le-leb _ _ c.if-arr-dep.true,
+)
 
 pub returns-then-arr : goal.returns-then-arr
 unfolding run_of
 returns-then-arr c = simp (
-      lt-leb _ _ c.if-stops-from.false,
-      lt-leb _ _ c.if-stops-to.false,
-      ne_eqb _ _ c.if-from-to.false,
-      lt-leb _ _ c.if-arr-dep.false,
-      lt-ltb _ _ c.if-arr.true,
-    )
+  lt-leb _ _ c.if-stops-from.false,
+  lt-leb _ _ c.if-stops-to.false,
+  ne_eqb _ _ c.if-from-to.false,
+  lt-leb _ _ c.if-arr-dep.false,
+  lt-ltb _ _ c.if-arr.true,
+)
 
 pub returns-then-trip-eq0 : goal.returns-then-trip-eq0
 unfolding run_of
 returns-then-trip-eq0 c = simp (
-      lt-leb _ _ c.if-stops-from.false,
-      lt-leb _ _ c.if-stops-to.false,
-      ne_eqb _ _ c.if-from-to.false,
-      lt-leb _ _ c.if-arr-dep.false,
-      le-ltb _ _ c.if-arr.false,
-      eq-eqb _ _ c.if-trip-eq0.true,
-    )
+  lt-leb _ _ c.if-stops-from.false,
+  lt-leb _ _ c.if-stops-to.false,
+  ne_eqb _ _ c.if-from-to.false,
+  lt-leb _ _ c.if-arr-dep.false,
+  le-ltb _ _ c.if-arr.false,
+  eq-eqb _ _ c.if-trip-eq0.true,
+)
 
 pub returns-then-trip-gt-MOST : goal.returns-then-trip-gt-MOST
 unfolding run_of
 returns-then-trip-gt-MOST c = simp (
-      lt-leb _ _ c.if-stops-from.false,
-      lt-leb _ _ c.if-stops-to.false,
-      ne_eqb _ _ c.if-from-to.false,
-      lt-leb _ _ c.if-arr-dep.false,
-      le-ltb _ _ c.if-arr.false,
-      ne_eqb _ _ c.if-trip-eq0.false,
-      lt-ltb _ _ c.if-trip-gt-MOST.true,
-    )
+  lt-leb _ _ c.if-stops-from.false,
+  lt-leb _ _ c.if-stops-to.false,
+  ne_eqb _ _ c.if-from-to.false,
+  lt-leb _ _ c.if-arr-dep.false,
+  le-ltb _ _ c.if-arr.false,
+  ne_eqb _ _ c.if-trip-eq0.false,
+  lt-ltb _ _ c.if-trip-gt-MOST.true,
+)
 
 pub returns : goal.returns
 unfolding run_of
 returns c = simp (
-      lt-leb _ _ c.if-stops-from.false,
-      lt-leb _ _ c.if-stops-to.false,
-      ne_eqb _ _ c.if-from-to.false,
-      lt-leb _ _ c.if-arr-dep.false,
-      le-ltb _ _ c.if-arr.false,
-      ne_eqb _ _ c.if-trip-eq0.false,
-      le-ltb _ _ c.if-trip-gt-MOST.false,
-    )
+  lt-leb _ _ c.if-stops-from.false,
+  lt-leb _ _ c.if-stops-to.false,
+  ne_eqb _ _ c.if-from-to.false,
+  lt-leb _ _ c.if-arr-dep.false,
+  le-ltb _ _ c.if-arr.false,
+  ne_eqb _ _ c.if-trip-eq0.false,
+  le-ltb _ _ c.if-trip-gt-MOST.false,
+)
