@@ -8,8 +8,8 @@ use Rattle.std.proofs.Math.ListN.{get_or-append}
 use Rattle.loops.specs.ZeroLaws.{length-zeros, zeros_as}
 use Rattle.kinds.specs.Limits.{runs_room}
 use Rattle.kinds.specs.declared.Refusal.{Refusal}
-use Rattle.journeys.specs.JourneyLaws.{rides_below}
-use Rattle.journeys.specs.RidesLaws.{chosen_journey}
+use Rattle.journeys.proofs.JourneyLaws.{rides_below}
+use Rattle.journeys.proofs.RidesLaws.{chosen_journey}
 use Rattle.tables.specs.File.{tables_of}
 use Rattle.timetable.specs.declared.Given.{Given}
 use Rattle.timetable.specs.Numbers.{run_at, GoodRunAt}

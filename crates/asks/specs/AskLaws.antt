@@ -2,7 +2,7 @@
 use Rattle.std.specs.Prelude.{ℕ, ◌≡◌, refl, List}
 use Rattle.std.proofs.Common.{sym, ap, ap₂, ◌∙◌}
 use Rattle.journeys.specs.declared.Criterion.{Criterion}
-use Rattle.journeys.specs.CriteriaLaws.{best_one, best_not_nothing}
+use Rattle.journeys.proofs.CriteriaLaws.{best_one, best_not_nothing}
 use Rattle.tables.specs.declared.TablesRead.TheVariants as tables
 use Rattle.tables.specs.Judged.{judged_tables}
 use Rattle.asks.specs.declared.Wanted.{Wanted}

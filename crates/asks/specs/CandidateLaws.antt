@@ -5,9 +5,9 @@ use Rattle.std.proofs.Math.Decide.{ℕ_discrete, dec_le, dec_lt}
 use Rattle.loops.specs.FirstLaws.{passed_none, first_one, first_at}
 use Rattle.journeys.specs.declared.Criterion.{Criterion}
 use Rattle.journeys.specs.Journey.{Within}
-use Rattle.journeys.specs.PairLaws.{itself}
+use Rattle.journeys.proofs.PairLaws.{itself}
 use Rattle.journeys.specs.Tables.{outs, ins, Tables, Entry, of_out, of_in, GoodTables, Sketch, single, joined}
-use Rattle.journeys.specs.SketchLaws.{entry_at}
+use Rattle.journeys.proofs.SketchLaws.{entry_at}
 use Rattle.label_sets.specs.declared.Moment.TheVariants.{Leaving}
 use Rattle.label_sets.specs.SeekLaws.{dec_past}
 use Rattle.asks.specs.declared.Found.{Found}

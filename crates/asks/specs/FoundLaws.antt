@@ -6,7 +6,7 @@ use Rattle.std.proofs.lemmas.Bool.{eqb-false}
 use Rattle.journeys.specs.declared.Criterion.{Criterion}
 use Rattle.journeys.specs.declared.Criterion.TheVariants.{Early, Late, Short}
 use Rattle.journeys.specs.Criteria.{Fits, Better, Best, Nothing}
-use Rattle.journeys.specs.CriteriaLaws.{best_up, nothing_same, never_better, better_trans}
+use Rattle.journeys.proofs.CriteriaLaws.{best_up, nothing_same, never_better, better_trans}
 use Rattle.journeys.specs.Journey.{Within}
 use Rattle.asks.specs.declared.Journey.{Journey}
 use Rattle.asks.specs.declared.Found.{Found}

@@ -5,9 +5,9 @@ use Rattle.std.proofs.Math.Decide.{dec_lt}
 use Rattle.std.proofs.Math.ListN.{get_or-append, get_or-eq_default}
 use Rattle.kinds.specs.Limits.{most_stops, most_labels}
 use Rattle.journeys.specs.Service.{Service, GoodService}
-use Rattle.journeys.specs.RuleLaws.{by_rule_same}
+use Rattle.journeys.proofs.RuleLaws.{by_rule_same}
 use Rattle.journeys.specs.Count.{RuleCount}
-use Rattle.journeys.specs.CountLaws.{pairs_one, rule_count_one}
+use Rattle.journeys.proofs.CountLaws.{pairs_one, rule_count_one}
 use Rattle.tables.specs.File.{place_of, tables_of, AreBytes}
 use Rattle.tables.specs.GoodLaws.{good_judged}
 use Rattle.tables.specs.OneFile.{SameLabels}

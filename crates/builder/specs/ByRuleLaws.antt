@@ -11,9 +11,9 @@ use Rattle.journeys.specs.Service.{Service, GoodService}
 use Rattle.journeys.specs.Tables.{Side, outs, ins, Entry}
 use Rattle.journeys.specs.Rule.{Pivot, by_stop, Rule, ByRule}
 use Rattle.journeys.specs.Count.{Timed, PairLabels, RuleCount}
-use Rattle.journeys.specs.JourneyLaws.{journey_later, journey_last, journey_from, journey_to, between_iff, not_start, not_end}
+use Rattle.journeys.proofs.JourneyLaws.{journey_later, journey_last, journey_from, journey_to, between_iff, not_start, not_end}
 use Rattle.journeys.specs.Paths.{Via}
-use Rattle.journeys.specs.RuleLaws.{none_via}
+use Rattle.journeys.proofs.RuleLaws.{none_via}
 use Rattle.tables.specs.File.{set_of, owner_of, count_of, start_of, end_of, labels_of, label_at, pivot_of, tables_of}
 use Rattle.tables.specs.TablesLaws.{pivot_some, pivot_is, set_below, set_owner}
 use Rattle.tables.specs.Good.{After, higher, later, LabelGood, GoodFile}

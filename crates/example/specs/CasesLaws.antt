@@ -8,8 +8,8 @@ use Rattle.journeys.specs.declared.Criterion.TheVariants.{Early, Late, Short}
 use Rattle.journeys.specs.Service.{Service, GoodService}
 use Rattle.journeys.specs.Journey.{Journey, one, more, rides, RidesOf}
 use Rattle.journeys.specs.Criteria.{Best, Nothing}
-use Rattle.journeys.specs.JourneyLaws.{journey_later, journey_last}
-use Rattle.journeys.specs.TestLaws.{and_split, or_split, all_of, good_of, ride_of_lem, t_within}
+use Rattle.journeys.proofs.JourneyLaws.{journey_later, journey_last}
+use Rattle.journeys.proofs.TestLaws.{and_split, or_split, all_of, good_of, ride_of_lem, t_within}
 use Rattle.journeys.specs.Tests.{and_then, or_else, allb, goodb, rideb, withinb}
 use Rattle.example.specs.Cases.{Reply, at, joined, nothing, Case, Says, Holds}
 use Rattle.example.specs.CaseTests.{ridesb, freeb, bestb, noneb, saysb, casesb}

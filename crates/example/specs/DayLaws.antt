@@ -17,11 +17,11 @@ use Rattle.reader.specs.Text.{ReadOutcome, whole, put_run, read_from, read_text,
 use Rattle.journeys.specs.Service.{Service, GoodService}
 use Rattle.journeys.specs.Rule.{ByRule}
 use Rattle.journeys.specs.Count.{sum_pairs, RuleCount}
-use Rattle.journeys.specs.CountTestLaws.{rule_count_of}
+use Rattle.journeys.proofs.CountTestLaws.{rule_count_of}
 use Rattle.journeys.specs.CountTests.{manyb, first_with, many_with, is_withb, amongb, withb, many_for, countsb}
-use Rattle.journeys.specs.RuleTestLaws.{by_rule_of}
+use Rattle.journeys.proofs.RuleTestLaws.{by_rule_of}
 use Rattle.journeys.specs.RuleTests.{undominatedb, viab, some_viab, some_rideb, labelledb, pivotb, ruleb, sideb, setb, heldb, pairb, soundb, fullb}
-use Rattle.journeys.specs.TestLaws.{all_of, good_of}
+use Rattle.journeys.proofs.TestLaws.{all_of, good_of}
 use Rattle.journeys.specs.Tests.{allb, anyb, goodb, rideb, startb, reachb, withinb}
 use Rattle.timetable.specs.Numbers.{given_of, read_run, refused_run, judged_of}
 use Rattle.timetable.specs.Slots.{slots_of, slot_run, service_of}

@@ -10,7 +10,7 @@ use Rattle.loops.specs.TellsLaws.{told_true, told_false}
 use Rattle.kinds.specs.declared.Label as kinds
 use Rattle.journeys.specs.Tables.{Side, outs, ins, Tables, Entry, LabelAt, of_out, of_in, Label, GoodTables, LabelWith}
 use Rattle.journeys.specs.Check.{Halves}
-use Rattle.journeys.specs.SketchLaws.{entry_at, number_by_dep, one_by_dep, one_by_arr}
+use Rattle.journeys.proofs.SketchLaws.{entry_at, number_by_dep, one_by_dep, one_by_arr}
 use Rattle.tables.specs.File.{labels_of, label_at, pivot_of, tables_of}
 use Rattle.tables.specs.TablesLaws.{pivot_one, same_label, read_as, good_stops, tables_within, good_tables}
 use Rattle.label_sets.specs.Starts.{Started}

@@ -14,8 +14,8 @@ use Rattle.journeys.specs.Service.{Service}
 use Rattle.journeys.specs.Tables.{outs, ins, Tables, Entry, of_out, of_in, Label, GoodTables, JoinAt}
 use Rattle.journeys.specs.Rides as rides
 use Rattle.journeys.specs.Rides.{Opens, both, Chosen}
-use Rattle.journeys.specs.SketchLaws.{entry_at, one_by_dep, one_by_arr}
-use Rattle.journeys.specs.RidesLaws.{parts}
+use Rattle.journeys.proofs.SketchLaws.{entry_at, one_by_dep, one_by_arr}
+use Rattle.journeys.proofs.RidesLaws.{parts}
 use Rattle.journeys.specs.Paths.{Parts}
 use Rattle.tables.specs.File.{tables_of, labels_of, label_at, pivot_of}
 use Rattle.tables.specs.Read.{ReadsAs}

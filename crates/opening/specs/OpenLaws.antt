@@ -11,8 +11,8 @@ use Rattle.journeys.specs.Service.{Service}
 use Rattle.journeys.specs.Tables.{Tables, of_out, of_in, Label, GoodTables}
 use Rattle.journeys.specs.Check.{Halves}
 use Rattle.journeys.specs.Rides.{Opens, ride, both}
-use Rattle.journeys.specs.SketchLaws.{label_later, label_last, label_from, label_to, one_by_dep, one_by_arr}
-use Rattle.journeys.specs.RidesLaws.{opens_short, parts, only_ride}
+use Rattle.journeys.proofs.SketchLaws.{label_later, label_last, label_from, label_to, one_by_dep, one_by_arr}
+use Rattle.journeys.proofs.RidesLaws.{opens_short, parts, only_ride}
 use Rattle.journeys.specs.Paths.{Parts}
 use Rattle.tables.specs.File.{tables_of, pivot_of}
 use Rattle.tables.specs.TablesLaws.{pivot_none, pivot_some, good_tables}

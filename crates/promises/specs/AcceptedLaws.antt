@@ -7,7 +7,7 @@ use Rattle.kinds.specs.declared.Refusal.{Refusal}
 use Rattle.journeys.specs.Service.{Service, GoodService}
 use Rattle.journeys.specs.Tables.{Tables, GoodTables}
 use Rattle.journeys.specs.Check as the
-use Rattle.journeys.specs.AcceptedLaws.{accepted_best, accepted_nothing}
+use Rattle.journeys.proofs.AcceptedLaws.{accepted_best, accepted_nothing}
 use Rattle.tables.specs.declared.TablesRead.TheVariants as tables
 use Rattle.tables.specs.File.{tables_of}
 use Rattle.tables.specs.Judged.{judged_tables}

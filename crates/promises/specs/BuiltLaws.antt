@@ -6,7 +6,7 @@ use Rattle.std.proofs.Math.Seq.{take-append_seam}
 use Rattle.loops.specs.ZeroLaws.{zeros_is}
 use Rattle.loops.specs.Zero.{zeros}
 use Rattle.kinds.specs.declared.Refusal.{Refusal}
-use Rattle.journeys.specs.RuleLaws.{by_rule_accepted}
+use Rattle.journeys.proofs.RuleLaws.{by_rule_accepted}
 use Rattle.tables.specs.declared.TablesRead.TheVariants as tables
 use Rattle.tables.specs.File.{place_of, tables_of, AreBytes}
 use Rattle.tables.specs.Judged.{judged_tables}

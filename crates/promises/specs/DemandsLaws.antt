@@ -2,7 +2,7 @@
 use Rattle.std.specs.Prelude.{ℕ, ◌-◌, ◌≤◌, ◌≡◌, refl, List, ◌++◌, replicate}
 use Rattle.std.proofs.Common.{sym, ap, subst, ◌∙◌, arith}
 use Rattle.kinds.specs.declared.Refusal.{Refusal}
-use Rattle.journeys.specs.AcceptedLaws.{unsupported_real, gap_real}
+use Rattle.journeys.proofs.AcceptedLaws.{unsupported_real, gap_real}
 use Rattle.tables.specs.declared.TablesRead.TheVariants as tables
 use Rattle.tables.specs.File.{file_room, tables_of}
 use Rattle.tables.specs.Judged.{judged_tables}

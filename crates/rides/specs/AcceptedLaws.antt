@@ -9,9 +9,9 @@ use Rattle.journeys.specs.Service.{Service, GoodService}
 use Rattle.journeys.specs.Journey.{Journey}
 use Rattle.journeys.specs.Tables.{Tables, GoodTables}
 use Rattle.journeys.specs.Check.{AllSupported, Accepted}
-use Rattle.journeys.specs.AcceptedLaws.{accepted_best, accepted_nothing}
-use Rattle.journeys.specs.CriteriaLaws.{best_one, best_not_nothing}
-use Rattle.journeys.specs.RidesLaws.{chosen_journey, chosen_all, rides_few}
+use Rattle.journeys.proofs.AcceptedLaws.{accepted_best, accepted_nothing}
+use Rattle.journeys.proofs.CriteriaLaws.{best_one, best_not_nothing}
+use Rattle.journeys.proofs.RidesLaws.{chosen_journey, chosen_all, rides_few}
 use Rattle.tables.specs.File.{tables_of}
 use Rattle.tables.specs.TablesLaws.{good_stops, good_tables}
 use Rattle.timetable.specs.declared.Given.{Given}

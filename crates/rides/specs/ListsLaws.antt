@@ -13,9 +13,9 @@ use Rattle.journeys.specs.Service.{Service}
 use Rattle.journeys.specs.Criteria.{Best}
 use Rattle.journeys.specs.Tables.{Tables, GoodTables, Sketch}
 use Rattle.journeys.specs.Rides.{Chosen}
-use Rattle.journeys.specs.CriteriaLaws.{best_one, best_not_nothing}
-use Rattle.journeys.specs.SketchLaws.{sketch_last}
-use Rattle.journeys.specs.RidesLaws.{chosen_one, chosen_short}
+use Rattle.journeys.proofs.CriteriaLaws.{best_one, best_not_nothing}
+use Rattle.journeys.proofs.SketchLaws.{sketch_last}
+use Rattle.journeys.proofs.RidesLaws.{chosen_one, chosen_short}
 use Rattle.tables.specs.declared.TablesRead.{TablesRead}
 use Rattle.tables.specs.declared.TablesRead.TheVariants as tables
 use Rattle.tables.specs.File.{tables_of}

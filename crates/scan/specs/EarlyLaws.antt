@@ -7,8 +7,8 @@ use Rattle.journeys.specs.declared.Criterion.TheVariants.{Early}
 use Rattle.journeys.specs.Service.{Service, GoodService}
 use Rattle.journeys.specs.Journey.{Journey, Within}
 use Rattle.journeys.specs.Criteria.{Best, Nothing}
-use Rattle.journeys.specs.JourneyLaws.{journey_last}
-use Rattle.journeys.specs.EarliestLaws.{earliest}
+use Rattle.journeys.proofs.JourneyLaws.{journey_last}
+use Rattle.journeys.proofs.EarliestLaws.{earliest}
 use Rattle.journeys.specs.Paths.{Earliest}
 
 module _ {S : Service} (G : GoodService S) {u t far : ℕ} (late : last_minute < far) {E : ℕ → ℕ} (R : Earliest S u t far E) {v : ℕ} (apart : v ≢ u) where

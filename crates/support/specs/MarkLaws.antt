@@ -11,8 +11,8 @@ use Rattle.kinds.specs.Limits.{most_labels}
 use Rattle.journeys.specs.declared.Ride.{Ride}
 use Rattle.journeys.specs.Service.{Service, RideAt}
 use Rattle.journeys.specs.Tables.{Side, outs, ins, Tables, Entry, LabelAt, of_out, of_in, Label, GoodTables}
-use Rattle.journeys.specs.JourneyLaws.{ride_from, ride_to}
-use Rattle.journeys.specs.SketchLaws.{number_by_dep}
+use Rattle.journeys.proofs.JourneyLaws.{ride_from, ride_to}
+use Rattle.journeys.proofs.SketchLaws.{number_by_dep}
 use Rattle.tables.specs.File.{start_of, pivot_of, tables_of}
 use Rattle.tables.specs.TablesLaws.{entry_only, good_stops, tables_within}
 use Rattle.tables.specs.Good.{GoodFile}

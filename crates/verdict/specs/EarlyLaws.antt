@@ -6,9 +6,9 @@ use Rattle.kinds.specs.Limits.{last_minute, unreached}
 use Rattle.journeys.specs.Tables.{Tables, outs, ins, Entry, of_out, of_in, GoodTables, Sketch, single, joined}
 use Rattle.journeys.specs.Check.{NoGap}
 use Rattle.journeys.specs.Journey.{Within}
-use Rattle.journeys.specs.PairLaws.{wider}
-use Rattle.journeys.specs.SketchLaws.{sketch_last}
-use Rattle.journeys.specs.AcceptedLaws.{no_gap_iff}
+use Rattle.journeys.proofs.PairLaws.{wider}
+use Rattle.journeys.proofs.SketchLaws.{sketch_last}
+use Rattle.journeys.proofs.AcceptedLaws.{no_gap_iff}
 use Rattle.verdict.specs.Early.{Reached, InBy, Arrival, Early}
 
 module _ {T : Tables} (G : GoodTables T) {u v d e : ℕ} {R : ℕ → ℕ} (other : v ≢ u) (stop : v < T.stops)

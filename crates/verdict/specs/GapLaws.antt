@@ -8,7 +8,7 @@ use Rattle.loops.specs.ComparesLaws.{tells_le}
 use Rattle.journeys.specs.declared.Ride.{Ride}
 use Rattle.journeys.specs.Service.{Service, RideAt}
 use Rattle.journeys.specs.Tables.{Tables, outs, ins}
-use Rattle.journeys.specs.JourneyLaws.{ride_last}
+use Rattle.journeys.proofs.JourneyLaws.{ride_last}
 use Rattle.journeys.specs.Check.{NoGap, NoGapAt, NoGaps}
 use Rattle.tables.specs.File.{tables_of}
 use Rattle.tables.specs.TablesLaws.{good_tables}

@@ -11,7 +11,7 @@ use Rattle.std.proofs.Math.Seq.{get_or-set_same, get_or-set_other}
 use Rattle.kinds.specs.Limits.{unreached}
 use Rattle.kinds.specs.declared.Label.{Label}
 use Rattle.journeys.specs.Tables.{Side, Tables, outs, ins, Entry, GoodTables}
-use Rattle.journeys.specs.SketchLaws.{entry_at, one_entry}
+use Rattle.journeys.proofs.SketchLaws.{entry_at, one_entry}
 use Rattle.tables.specs.File.{set_of, labels_of, label_at, tables_of}
 use Rattle.tables.specs.Read.{ReadsAs}
 use Rattle.tables.specs.Good.{GoodFile}

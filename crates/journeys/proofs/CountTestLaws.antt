@@ -9,7 +9,7 @@ use Rattle.journeys.specs.Service.{Service}
 use Rattle.journeys.specs.Tables.{Side, outs, ins, Tables, Entry, GoodTables}
 use Rattle.journeys.specs.Rule.{Rule, ByRule}
 use Rattle.journeys.specs.Count.{PairLabels, sum_pairs, RuleCount}
-use Rattle.journeys.specs.TestLaws.{T_and, and_split, or_split, t_same, all_of}
+use Rattle.journeys.proofs.TestLaws.{T_and, and_split, or_split, t_same, all_of}
 use Rattle.journeys.specs.Tests.{and_then, allb}
 use Rattle.journeys.specs.CountTests.{first_with, many_with, is_withb, amongb, withb, row_with, many_for, row_for, countsb}
 

@@ -9,7 +9,7 @@ use Rattle.journeys.specs.declared.Criterion.{Criterion}
 use Rattle.journeys.specs.declared.Criterion.TheVariants.{Early, Late, Short}
 use Rattle.journeys.specs.Journey.{Undominated, Within}
 use Rattle.journeys.specs.Criteria.{Fits, Better, Best, Answer, Nothing}
-use Rattle.journeys.specs.PairLaws.{itself, wider, tight, early_tight, last_for, first_from}
+use Rattle.journeys.proofs.PairLaws.{itself, wider, tight, early_tight, last_for, first_from}
 use Rattle.journeys.specs.Paths.{Lasts}
 
 -- the duration: what `Better` says of short is what the paper says of it

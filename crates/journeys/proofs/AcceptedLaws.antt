@@ -14,12 +14,12 @@ use Rattle.journeys.specs.Journey.{Journey, one, more, rides, Within}
 use Rattle.journeys.specs.Criteria.{Best, Answer, Nothing}
 use Rattle.journeys.specs.Tables.{Side, outs, ins, Tables, Entry, of_out, of_in, Label, GoodTables, Sketch, single, joined, LabelWith}
 use Rattle.journeys.specs.Check.{Halves, Supported, SupportedAt, AllSupported, NoGap, NoGapAt, NoGaps, Accepted, Unsupported, Missed}
-use Rattle.journeys.specs.PairLaws.{itself, wider}
-use Rattle.journeys.specs.CriteriaLaws.{best_same, nothing_same, early_best, early_least, early_within}
-use Rattle.journeys.specs.JourneyLaws.{journey_later, ride_to}
+use Rattle.journeys.proofs.PairLaws.{itself, wider}
+use Rattle.journeys.proofs.CriteriaLaws.{best_same, nothing_same, early_best, early_least, early_within}
+use Rattle.journeys.proofs.JourneyLaws.{journey_later, ride_to}
 use Rattle.journeys.specs.Paths.{join, NoGapWithin}
-use Rattle.journeys.specs.ReachLaws.{dec_some_ride}
-use Rattle.journeys.specs.SketchLaws.{entry_at, label_later, one_by_dep, one_by_arr, sketch_later, sketch_last, sketch_to, dec_sketch, dec_label}
+use Rattle.journeys.proofs.ReachLaws.{dec_some_ride}
+use Rattle.journeys.proofs.SketchLaws.{entry_at, label_later, one_by_dep, one_by_arr, sketch_later, sketch_last, sketch_to, dec_sketch, dec_label}
 
 -- L2: a supported label has a journey with exactly its pair, by the label's duration; so has each sketch
 module _ {S : Service} {T : Tables} (good : GoodTables T) (sup : AllSupported S T) where

@@ -12,10 +12,10 @@ use Rattle.journeys.specs.Journey.{Journey, one, more, rides, RidesOf}
 use Rattle.journeys.specs.Tables.{Tables, of_out, of_in, Label, GoodTables, JoinAt, Sketch, single, joined, LabelWith}
 use Rattle.journeys.specs.Check.{AllSupported}
 use Rattle.journeys.specs.Rides.{Opens, ride, both, Chosen, by_label, by_hub}
-use Rattle.journeys.specs.JourneyLaws.{rides-join, ride_later, journey_last}
+use Rattle.journeys.proofs.JourneyLaws.{rides-join, ride_later, journey_last}
 use Rattle.journeys.specs.Paths.{join, Parts}
-use Rattle.journeys.specs.ReachLaws.{dec_ride, dec_some_ride}
-use Rattle.journeys.specs.SketchLaws.{label_later, one_by_dep, one_by_arr, dec_label}
+use Rattle.journeys.proofs.ReachLaws.{dec_ride, dec_some_ride}
+use Rattle.journeys.proofs.SketchLaws.{label_later, one_by_dep, one_by_arr, dec_label}
 
 -- the rides of a label are a journey with exactly its pair
 pub opens_journey : {S : Service} {T : Tables} {u v d a : ℕ} {p : Option ℕ} {l : List ℕ} → Opens S T u v d a p l → RidesOf S u v d a l

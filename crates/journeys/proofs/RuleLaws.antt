@@ -13,11 +13,11 @@ use Rattle.journeys.specs.Criteria.{Best, Nothing}
 use Rattle.journeys.specs.Tables.{Side, outs, ins, Tables, Entry, of_out, of_in, Label, GoodTables, Sketch, single, joined}
 use Rattle.journeys.specs.Rule.{Pivot, by_run, by_stop, Rule, ByRule}
 use Rattle.journeys.specs.Check.{Halves, AllSupported, Accepted}
-use Rattle.journeys.specs.PairLaws.{same_pair}
-use Rattle.journeys.specs.JourneyLaws.{between_iff, visits_iff, via_first, via_second, not_start, not_end}
+use Rattle.journeys.proofs.PairLaws.{same_pair}
+use Rattle.journeys.proofs.JourneyLaws.{between_iff, visits_iff, via_first, via_second, not_start, not_end}
 use Rattle.journeys.specs.Paths.{join, Via, Labelled, Split, TwoLabels, Part}
-use Rattle.journeys.specs.ReachLaws.{refined, dec_undominated, dec_via, lowest_via, dec_some_ride}
-use Rattle.journeys.specs.AcceptedLaws.{label_sound, sketch_sound, no_gap_iff, complete, accepted_best, accepted_nothing}
+use Rattle.journeys.proofs.ReachLaws.{refined, dec_undominated, dec_via, lowest_via, dec_some_ride}
+use Rattle.journeys.proofs.AcceptedLaws.{label_sound, sketch_sound, no_gap_iff, complete, accepted_best, accepted_nothing}
 
 -- the pivot is one
 pub pivot_one : {S : Service} {u v d a : ℕ} {p q : Option ℕ} → Pivot S u v d a p → Pivot S u v d a q → p ≡ q

@@ -6,8 +6,8 @@ use Rattle.loops.specs.DecideLaws.{least_below, dec_not}
 use Rattle.loops.specs.Decide.{dec_true, any_below, Least, dec_then, dec_or, dec_map}
 use Rattle.journeys.specs.Service.{Service, RideAt, GoodService}
 use Rattle.journeys.specs.Journey.{Journey, one, more, Undominated, Within}
-use Rattle.journeys.specs.PairLaws.{same_pair, refine, undominated_iff}
-use Rattle.journeys.specs.JourneyLaws.{journey_later}
+use Rattle.journeys.proofs.PairLaws.{same_pair, refine, undominated_iff}
+use Rattle.journeys.proofs.JourneyLaws.{journey_later}
 use Rattle.journeys.specs.Paths.{join, Via, Starts, Meet}
 
 ride_at : {S : Service} {i u v : ℕ} → i < S.slots → S.in_force i ≡ true → (S.ride i).from ≡ u → (S.ride i).to ≡ v →

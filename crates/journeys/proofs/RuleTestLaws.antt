@@ -9,12 +9,12 @@ use Rattle.journeys.specs.Service.{Service, GoodService}
 use Rattle.journeys.specs.Journey.{Journey, one, more, Undominated}
 use Rattle.journeys.specs.Tables.{Side, outs, ins, Tables, Entry}
 use Rattle.journeys.specs.Rule.{Pivot, by_run, by_stop, Rule, ByRule}
-use Rattle.journeys.specs.PairLaws.{undominated_iff}
-use Rattle.journeys.specs.JourneyLaws.{between_iff, visits_iff, journey_later}
+use Rattle.journeys.proofs.PairLaws.{undominated_iff}
+use Rattle.journeys.proofs.JourneyLaws.{between_iff, visits_iff, journey_later}
 use Rattle.journeys.specs.Paths.{Via}
-use Rattle.journeys.specs.ReachLaws.{via_of_meet}
-use Rattle.journeys.specs.RuleLaws.{pivot_one, none_via}
-use Rattle.journeys.specs.TestLaws.{T_and, and_split, or_cases, or_split, t_same, t_any, any_of, all_of, ride_of_lem, t_ride, within_of, t_within}
+use Rattle.journeys.proofs.ReachLaws.{via_of_meet}
+use Rattle.journeys.proofs.RuleLaws.{pivot_one, none_via}
+use Rattle.journeys.proofs.TestLaws.{T_and, and_split, or_cases, or_split, t_same, t_any, any_of, all_of, ride_of_lem, t_ride, within_of, t_within}
 use Rattle.journeys.specs.Tests.{and_then, anyb, allb, rideb, withinb}
 use Rattle.journeys.specs.RuleTests.{First, Last, undominatedb, viab, some_viab, some_rideb, labelledb, pivotb, ruleb, RuleOn, sideb, setb, heldb, pairb}
 use Rattle.journeys.specs.RuleTests.{soundb, fullb}

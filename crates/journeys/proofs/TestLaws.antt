@@ -7,8 +7,8 @@ use Rattle.std.proofs.Math.Dec.{eqb_refl}
 use Rattle.kinds.specs.Limits.{last_minute}
 use Rattle.journeys.specs.Service.{Service, RideAt, GoodService}
 use Rattle.journeys.specs.Journey.{Journey, Within}
-use Rattle.journeys.specs.JourneyLaws.{journey_later}
-use Rattle.journeys.specs.ReachLaws.{of_start, to_start}
+use Rattle.journeys.proofs.JourneyLaws.{journey_later}
+use Rattle.journeys.proofs.ReachLaws.{of_start, to_start}
 use Rattle.journeys.specs.Paths.{Starts}
 use Rattle.journeys.specs.Tests.{and_then, or_else, anyb, allb, goodb, rideb, startb, reachb, withinb}
 

@@ -1,0 +1,13 @@
+pub mod PairLaws
+pub mod CriteriaLaws
+pub mod JourneyLaws
+pub mod ReachLaws
+pub mod SketchLaws
+pub mod AcceptedLaws
+pub mod RuleLaws
+pub mod RidesLaws
+pub mod EarliestLaws
+pub mod TestLaws
+pub mod RuleTestLaws
+pub mod CountLaws
+pub mod CountTestLaws
