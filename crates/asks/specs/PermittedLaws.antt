@@ -109,7 +109,11 @@ module _ (n from to : ℕ) (w : Wanted) where
       go (yes h) (yes k) (no d) r c = apart (record { from_stop = h; to_stop = k; apart = d }) r c
 
   -- and only a permitted ask is asked
-  pub permitted_ask : (q : Asked) → ask_read n from to w ≡ ask.Good q → Permitted n from to w × (q ≡ record { from = from; to = to; criterion = criterion_of w })
+  pub permitted_ask : (q : Asked) → ask_read n from to w ≡ ask.Good q → Permitted n from to w × (q ≡ record {
+    from = from;
+    to = to;
+    criterion = criterion_of w;
+  })
   permitted_ask q f = go ask_is f
     where
       go : {x : AskRead} → AskIs n from to w x → x ≡ ask.Good q → Permitted n from to w × (q ≡ record { from = from; to = to; criterion = criterion_of w })

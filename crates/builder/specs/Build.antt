@@ -36,5 +36,6 @@ pub data BuiltOf (S : Service) (lent : ℕ) (answer : BuildAnswer) (tables : Lis
 
 -- the call: "Builder: those" of the given numbers first
 pub data BuildOf (given : Given) (runs : List ℕ) (work lent : ℕ) (answer : BuildAnswer) (tables : List ℕ) : Type 0 where
-  refused : (r : Refusal) → judged_of given runs work build_room ≡ judged.No r → answer ≡ No r → tables ≡ replicate lent 0 → BuildOf given runs work lent answer tables
+  refused : (r : Refusal) → judged_of given runs work build_room ≡ judged.No r → answer ≡ No r → tables ≡ replicate lent 0 → BuildOf given runs work lent
+      answer tables
   good : judged_of given runs work build_room ≡ judged.Good → BuiltOf (service_of given runs) lent answer tables → BuildOf given runs work lent answer tables

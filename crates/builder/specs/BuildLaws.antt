@@ -42,7 +42,8 @@ module _ {S : Service} {sets : List ℕ} {r : ℕ} (t : CountedAll S sets r) (fe
   }
 
 -- all labels written make the rule's file
-pub written_file : {S : Service} {k : ℕ} {R : RuleCount S k} {b : List ℕ} → GoodService S → S.stops ≤ most_stops → 1 ≤ S.stops → WrittenTo S R S.stops b → RuleFile S b
+pub written_file : {S : Service} {k : ℕ} {R : RuleCount S k} {b : List ℕ} → GoodService S → S.stops ≤ most_stops → 1 ≤ S.stops → WrittenTo S R S.stops b →
+    RuleFile S b
 written_file {S} {k} {R} {b} G few some w = record {
   good = good_judged b S.stops (rule_file G few some R w.few w.framed (λ u v h l n. w.holds u v h l n));
   rule = rule_by G few some R w.few w.framed (λ u v h l n. w.holds u v h l n);

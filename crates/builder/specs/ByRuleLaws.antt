@@ -20,7 +20,8 @@ use Rattle.tables.specs.Good.{After, higher, later, LabelGood, GoodFile}
 use Rattle.counts.specs.Sums.{sum}
 use Rattle.counts.specs.SumLaws.{sum_none, sum_suc, rows_sum, rows_all}
 use Rattle.builder.specs.Places.{in_group, in_set, group_start, set_for, hub_for, pair_start, Stands}
-use Rattle.builder.specs.PlaceLaws.{set_out, set_in, group_out, group_in, pair_group, pair_below, pair_of, start_below, group_within, groups_rise, set_located, sets_all}
+use Rattle.builder.specs.PlaceLaws.{set_out, set_in, group_out, group_in, pair_group, pair_below, pair_of, start_below, group_within, groups_rise}
+use Rattle.builder.specs.PlaceLaws.{set_located, sets_all}
 use Rattle.builder.specs.Framed.{Framed, Holds}
 
 -- a stop has no labels to itself
@@ -56,7 +57,8 @@ module _ {S : Service} (G : GoodService S) {u v d a : ℕ} {p : Option ℕ} (r :
 arrives_later : {S : Service} {u v d a e b : ℕ} {p q : Option ℕ} → Rule S u v d a p → Rule S u v e b q → d < e → a < b
 arrives_later {a = a} {e = e} {b = b} x y h = elim (dec_lt a b) [ yes l ↦ l | no l ↦ absurd (x.best.no_later e b y.best.has h (omega arith)) ]
 
-module _ {S : Service} (G : GoodService S) (few : S.stops ≤ most_stops) (some-stops : 1 ≤ S.stops) {N : ℕ} (R : RuleCount S N) (few_labels : N ≤ most_labels) {b : List ℕ}
+module _ {S : Service} (G : GoodService S) (few : S.stops ≤ most_stops) (some-stops : 1 ≤ S.stops) {N : ℕ} (R : RuleCount S N) (few_labels : N ≤ most_labels)
+    {b : List ℕ}
     (F : Framed R.count S.stops b) (H : (u v : ℕ) → u < S.stops → v < S.stops → u ≢ v → Holds R.count R.row b u v 0) where
   abbrev n : ℕ
   n = S.stops
@@ -92,7 +94,13 @@ module _ {S : Service} (G : GoodService S) (few : S.stops ≤ most_stops) (some-
             apart = λ y. omega arith;
             within = omega (arith, ap (λ x. in_group c x h) s, group_out c (set / 2) h);
             set_is = set_out a ∙ sym s;
-            place = omega (arith, starts_are F set (omega arith), ap (λ x. group_start c x h) (sym (set_out a ∙ sym s)), ap (group_start c (set_for (set / 2) h)) m);
+            place = omega (
+              arith,
+              starts_are F set (omega arith),
+              ap (λ x. group_start c x h) (sym (set_out a ∙ sym s)),
+              ap
+                  (group_start c (set_for (set / 2) h)) m,
+            );
           }
       go (h, a, j, g, e) (no z) =
           let s : set ≡ 2 * (set / 2) + 1 = omega arith in
@@ -144,8 +152,10 @@ module _ {S : Service} (G : GoodService S) (few : S.stops ≤ most_stops) (some-
         other w p q e (inl o) = p (e ∙ o.0)
         other w p q e (inr o) = q (e ∙ o.0)
 
-        pivots : (p : Option ℕ) → pivot_of (label_at b (start_of b set + i)).pivot ≡ p → ((w : ℕ) → p ≡ some w → (min x.from x.to < w) × (w < n) × (w ≢ x.from) × (w ≢ x.to)) →
-            ((label_at b (start_of b set + i)).pivot ≡ no_pivot) ⊎ GoodPivot n (owner_of set) (label_at b (start_of b set + i)).hub (label_at b (start_of b set + i)).pivot
+        pivots : (p : Option ℕ) → pivot_of (label_at b (start_of b set + i)).pivot ≡ p →
+            ((w : ℕ) → p ≡ some w → (min x.from x.to < w) × (w < n) × (w ≢ x.from) × (w ≢ x.to)) →
+            ((label_at b (start_of b set + i)).pivot ≡ no_pivot) ⊎ GoodPivot n (owner_of set) (label_at b (start_of b set + i)).hub
+            (label_at b (start_of b set + i)).pivot
         pivots none e f = inl (is_none (ℕ_discrete (label_at b (start_of b set + i)).pivot no_pivot))
           where
             is_none : Dec ((label_at b (start_of b set + i)).pivot ≡ no_pivot) → (label_at b (start_of b set + i)).pivot ≡ no_pivot

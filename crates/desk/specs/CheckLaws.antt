@@ -63,7 +63,8 @@ neither_both (tables.Good n) numbers.Good stops p q =
 
 -- ---- 11 is a refusal of the tables' bytes, and names a label
 
-both_bad : (t : TablesRead) (j : Judged) (stops : ℕ) → NeitherOf j → (x : Refusal) → judged_both t j stops ≡ tables.No x → x.number ≡ label_bad → t ≡ tables.No x
+both_bad : (t : TablesRead) (j : Judged) (stops : ℕ) → NeitherOf j → (x : Refusal) → judged_both t j stops ≡ tables.No x → x.number ≡ label_bad → t ≡
+    tables.No x
 both_bad (tables.No y) j stops q x e h = e
 both_bad (tables.Good n) (numbers.No y) stops q x e h = let f : y ≡ x = cc in absurd (q.no_bad (ap (λ (z : Refusal). z.number) f ∙ h))
 both_bad (tables.Good n) numbers.Good stops q x e h = go (eqb n stops) e

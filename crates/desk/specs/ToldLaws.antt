@@ -31,7 +31,8 @@ use Rattle.desk.specs.declared.Admitted.TheVariants as answer
 -- ---- what the reader left
 
 module _ (s : List ℕ) (roomR roomC : ℕ) where
-  pub read_whole : {k : Counts} {numbers codes : List ℕ} → read.Read k ≡ answer_of (read_text s roomR roomC) → numbers ≡ runs_of (read_text s roomR roomC) roomR →
+  pub read_whole : {k : Counts} {numbers codes : List ℕ} → read.Read k ≡ answer_of (read_text s roomR roomC) → numbers ≡ runs_of (read_text s roomR roomC)
+      roomR →
       codes ≡ codes_of (read_text s roomR roomC) roomC → ReadWhole s roomR roomC k numbers codes
   read_whole {k} {numbers} {codes} e n c = go (read_text s roomR roomC) refl e n c
     where

@@ -109,7 +109,8 @@ append_one [] e = e
 append_one (x ∷ l) e = append_one l cc
 
 -- where the last line has no LF, "no 2" is all that is left
-unfinished_is : {P : ℕ → ℕ → List ℕ → Type 0} {t : List ℕ} {a : ℕ} {xs : List ℕ} → piece_at t a ≡ piece.Unfinished → LinesPrint P t a xs → xs ≡ no_line line_shape
+unfinished_is : {P : ℕ → ℕ → List ℕ → Type 0} {t : List ℕ} {a : ℕ} {xs : List ℕ} → piece_at t a ≡ piece.Unfinished → LinesPrint P t a xs → xs ≡ no_line
+    line_shape
 unfinished_is at (none at' is) = let k : ◌≡◌ {A = ℕ} 0 1 = let j = sym at ∙ at' in cc in absurd (omega arith)
 unfinished_is at (unfinished at' is) = is
 unfinished_is at (line i ys zs at' f rest is) = let k : ◌≡◌ {A = ℕ} 0 1 = let j = sym at ∙ at' in cc in absurd (omega arith)

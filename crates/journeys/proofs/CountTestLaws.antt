@@ -80,7 +80,8 @@ module _ {S : Service} {X : Tables} (R : ByRule S X) (good : GoodTables X) (same
   unfolding many_for row_for
   pair_labels u v l m = go (dec_lt v u)
     where
-      go : Dec (v < u) → PairLabels S u v (cond (ltb v u) (many_with X outs u v) (many_with X ins v u)) (cond (ltb v u) (row_with X outs u v) (row_with X ins v u))
+      go : Dec (v < u) → PairLabels S u v (cond (ltb v u) (many_with X outs u v) (many_with X ins v u))
+          (cond (ltb v u) (row_with X outs u v) (row_with X ins v u))
       go (yes h) = rw (lt-ltb v u h) (labels_of_lem good outs u v u v (omega arith) (both u v l m).0
           (λ d a p. ((λ e. ((R.out_rule u v d a p).0 e).1), (λ r. (R.out_rule u v d a p).1 (h, r)))))
       go (no h) = rw (le-ltb v u (omega arith)) (labels_of_lem good ins v u u v (omega arith) (both v u m l).1

@@ -34,7 +34,8 @@ four_check_one b given runs lent (x, f, e) (y, g, h) = e ∙ ap four_check (chec
 -- kiosk_early_rides, kiosk_late_rides, kiosk_short_rides: the four numbers and the list
 pub four_rides_one : (b : List ℕ) (given : Given) (runs : List ℕ) (lent from to : ℕ) (w : Wanted) (before k l : List ℕ) {m n : List ℕ} →
     ((x : RidesAnswer) × Lists (service_of given runs) (tables_of b) (rides_asked b given runs lent from to w) before k x × (m ≡ four_rides x)) →
-    ((y : RidesAnswer) × Lists (service_of given runs) (tables_of b) (rides_asked b given runs lent from to w) before l y × (n ≡ four_rides y)) → (m ≡ n) × (k ≡ l)
+    ((y : RidesAnswer) × Lists (service_of given runs) (tables_of b) (rides_asked b given runs lent from to w) before l y × (n ≡ four_rides y)) → (m ≡ n) ×
+    (k ≡ l)
 four_rides_one b given runs lent from to w before k l (x, f, e) (y, g, h) =
     let z = lists_one b given runs lent from to w before k l x y f g in
     (e ∙ ap four_rides z.0 ∙ sym h, z.1)

@@ -102,7 +102,8 @@ unfolding stop_in
 none_named s codes t a n none zero h = refl
 none_named s codes t a n none (suc k) h = rw (h k (omega arith)) (none_named s codes t a n none k (λ i l. h i (omega arith)))
 
-pub one_named : (s codes t : List ℕ) (a n none k j : ℕ) → j < k → has_code s codes t a n j ≡ true → ((i : ℕ) → j < i → i < k → has_code s codes t a n i ≡ false) →
+pub one_named : (s codes t : List ℕ) (a n none k j : ℕ) → j < k → has_code s codes t a n j ≡ true →
+    ((i : ℕ) → j < i → i < k → has_code s codes t a n i ≡ false) →
     j ≡ stop_in s codes t a n none k
 unfolding stop_in
 one_named s codes t a n none zero j l e h = absurd (omega arith)

@@ -7,7 +7,8 @@ use Rattle.std.proofs.Math.ListN.{get_or}
 use Rattle.loops.specs.Every.{same_b}
 use Rattle.loops.specs.EveryLaws.{same_at}
 use Rattle.kinds.specs.Limits.{most_code}
-use Rattle.lookup.specs.Mark.{words_below, Small, marked_bytes, word_at, mixed_of, start_of_mix, blocks_of, few_at, ends_of, mark_of_bytes, mark_of, Alike, Mixing}
+use Rattle.lookup.specs.Mark.{words_below, Small, marked_bytes, word_at, mixed_of, start_of_mix, blocks_of, few_at, ends_of, mark_of_bytes, mark_of, Alike}
+use Rattle.lookup.specs.Mark.{Mixing}
 use Rattle.lookup.specs.declared.Mix.{Mix}
 use Rattle.lookup.specs.declared.Ends.{Ends}
 
@@ -55,7 +56,14 @@ blocks_same : {s : List ℕ} {a : ℕ} {t : List ℕ} {b n : ℕ} → Alike s a 
 unfolding blocks_of
 blocks_same h m zero l = refl
 blocks_same {a = a} {b = b} h m (suc i) l =
-    rw (blocks_same h m i (omega arith), word_at_lem h (8 * i) (omega arith), add_assoc a (8 * i) 4, add_assoc b (8 * i) 4, word_at_lem h (8 * i + 4) (omega arith))
+    rw (
+      blocks_same h m i (omega arith),
+      word_at_lem h (8 * i) (omega arith),
+      add_assoc a (8 * i) 4,
+      add_assoc b (8 * i) 4,
+      word_at_lem h (8 * i + 4)
+          (omega arith),
+    )
 
 bytes_same : {s : List ℕ} {a : ℕ} {t : List ℕ} {b k : ℕ} → Alike s a t b k → mark_of_bytes s a k ≡ mark_of_bytes t b k
 unfolding mark_of_bytes

@@ -1,6 +1,7 @@
 -- A part of a lent list, from one place to its end, as it is lent and as it comes back.
 use Rattle.std.specs.Prelude.{ℕ, ◌+◌, ◌-◌, ◌≤◌, ◌<◌, ◌≡◌, List, ◌++◌, length, get_or, take, drop}
-use Rattle.std.proofs.Common.{sym, ap, ◌∙◌, append-nil, arith, length-drop, drop_of_length-le, take_all, length-take-le, get_or-take, get_or-drop, get_or-append-add}
+use Rattle.std.proofs.Common.{sym, ap, ◌∙◌, append-nil, arith, length-drop, drop_of_length-le, take_all, length-take-le, get_or-take, get_or-drop}
+use Rattle.std.proofs.Common.{get_or-append-add}
 use borrow.Rule.Slice.PartMut.{put_mid, mid_of, take_put}
 
 module _ (s : ℕ) (x : List ℕ) where
@@ -25,4 +26,5 @@ module _ (s : ℕ) (x : List ℕ) where
 
     pub put_at : (p : ℕ) → get_or (put_mid s (length x - s) x y) (s + p) 0 ≡ get_or y p 0
     put_at p =
-        ap (λ l. get_or l (s + p) 0) tail_put ∙ ap (λ (m : ℕ). get_or (take s x ++ y) (m + p) 0) (sym (length-take-le s x h)) ∙ get_or-append-add (take s x) y p 0
+        ap (λ l. get_or l (s + p) 0) tail_put ∙ ap (λ (m : ℕ). get_or (take s x ++ y) (m + p) 0) (sym (length-take-le s x h)) ∙ get_or-append-add (take s x) y
+        p 0

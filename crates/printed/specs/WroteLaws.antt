@@ -1,6 +1,7 @@
 -- Laws of what was written: one piece after the other, and what the buffer then holds.
 use Rattle.std.specs.Prelude.{ℕ, ◌+◌, ◌/◌, ◌%◌, ◌^◌, ◌≤◌, ◌<◌, ◌≡◌, refl, List, [], ◌∷◌, ◌++◌, length, get_or, take, drop, set}
-use Rattle.std.proofs.Common.{ap, sym, ◌∙◌, arith, zero-add, add-one, length-append, length-drop, take_all, take-suc, get_or-take, get_or-drop, length-take-le, ext_get_or}
+use Rattle.std.proofs.Common.{ap, sym, ◌∙◌, arith, zero-add, add-one, length-append, length-drop, take_all, take-suc, get_or-take, get_or-drop}
+use Rattle.std.proofs.Common.{length-take-le, ext_get_or}
 use Rattle.loops.specs.Put.{put_from}
 use Rattle.loops.specs.PutLaws.{put_length, put_append, put_at}
 use Rattle.printed.specs.Printed.{digit, most_digits, decimal}
@@ -33,7 +34,8 @@ wrote_first {l} {xs} {m} {j} w h = ext_get_or 0 (take j m) xs long (λ k lt. at 
 
     at : (k : ℕ) → k < length xs → get_or (take j m) k 0 ≡ get_or xs k 0
     at k lt =
-        get_or-take j m k 0 (omega (arith, w.end)) ∙ rw w.is (ap (λ (p : ℕ). get_or (put_from l 0 xs) p 0) (sym (zero-add k)) ∙ put_at l 0 xs k lt (omega arith))
+        get_or-take j m k 0 (omega (arith, w.end)) ∙ rw w.is (ap (λ (p : ℕ). get_or (put_from l 0 xs) p 0) (sym (zero-add k)) ∙ put_at l 0 xs k lt
+        (omega arith))
 
 -- the loop that copies
 pub copying_none : (l : List ℕ) (i : ℕ) (xs : List ℕ) → Copying l i xs l 0

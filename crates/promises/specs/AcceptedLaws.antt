@@ -89,7 +89,8 @@ module _ (b : List ℕ) (given : Given) (list : List ℕ) (lent from to : ℕ) (
 
   -- the room that the check leaves is all zeros, and as long as it was
   pub rides_accepted : (before : List ℕ) → v ≡ verdict.Accepted → {m : ℕ} → m ≡ lent → (after : List ℕ) (x : RidesAnswer) →
-      Lists (service_of given list) (tables_of b) (rides_asked b given list m from to w) before after x → CheckedRides b given list lent from to w before after x
+      Lists (service_of given list) (tables_of b) (rides_asked b given list m from to w) before after x → CheckedRides b given list lent from to w before
+      after x
   rides_accepted before e {m} q after x f =
       let d = subst (Checked b given list lent) e c in
       record {

@@ -73,7 +73,8 @@ module _ (s codes : List ℕ) {given : Given} {runs file : List ℕ} (g : GoodNu
   asked_tells q known (ask.no_stop (inl h) e) after y b f = absurd (omega (arith, known.0))
   asked_tells q known (ask.no_stop (inr h) e) after y b f = absurd (omega (arith, known.1))
   asked_tells q known (ask.equal_stops h i e) after y b f =
-      equal_stops q refl h i (says_no s codes runs after same_stop (subst (λ i. TimetableLists (service_of given runs) (tables_of file) i before after y) e f).0)
+      equal_stops q refl h i (says_no s codes runs after same_stop (subst (λ i. TimetableLists (service_of given runs) (tables_of file) i before after y) e
+      f).0)
   asked_tells q known (ask.beyond_range h o e) after y b f =
       beyond_range q refl h o (says_no s codes runs after minute_high
       (subst (λ i. TimetableLists (service_of given runs) (tables_of file) i before after y) e f).0)
@@ -134,7 +135,8 @@ output_tells t xs O = from_start O.tables O.stage O.starts O.prints
         Builds (given_of k.stops k.runs) (runs_of (read_input t runs_room codes_room) runs_room) file_room (build.No r) tables →
         answer_of (read_input t runs_room codes_room) ≡ read.Read k → xs ≡ refused_line r → OutputTells t xs
     from_builds k r tables (demands.the_rule file labels f c b a z) e P = let y : ◌≡◌ {A = ℕ} 0 1 = cc in absurd (omega arith)
-    from_builds k r tables (demands.too_many labels c m a z) e P = let same : r ≡ refusal labels_over 0 = cc in too_many k labels e c m (P ∙ ap refused_line same)
+    from_builds k r tables (demands.too_many labels c m a z) e P = let same : r ≡ refusal labels_over 0 = cc in too_many k labels e c m
+        (P ∙ ap refused_line same)
 
     from_start : (tables : List ℕ) (s : Stage) → StartOf t runs_room codes_room build_room file_room tables s →
         Prints t (runs_of (read_input t runs_room codes_room) runs_room) (codes_of (read_input t runs_room codes_room) codes_room) tables

@@ -1,8 +1,10 @@
 -- What each refusal means, in words.
 use Rattle.std.specs.Prelude.{ℕ, List, [], ◌∷◌, ◌++◌, cond, eqb, leb}
 use Prim.Native.String.{String}
-use Rattle.kinds.specs.Refusals.{first_line, line_shape, code_bad, code_repeated, stop_unknown, own_stop, out_of_range, over_limit, no_tables, tables_length, label_bad}
-use Rattle.kinds.specs.Refusals.{stop_high, same_stop, minute_high, minutes_crossed, no_journey, room_short, rides_missing, unsupported, gap, stops_differ, labels_over}
+use Rattle.kinds.specs.Refusals.{first_line, line_shape, code_bad, code_repeated, stop_unknown, own_stop, out_of_range, over_limit, no_tables, tables_length}
+use Rattle.kinds.specs.Refusals.{label_bad}
+use Rattle.kinds.specs.Refusals.{stop_high, same_stop, minute_high, minutes_crossed, no_journey, room_short, rides_missing, unsupported, gap, stops_differ}
+use Rattle.kinds.specs.Refusals.{labels_over}
 use Rattle.kinds.specs.declared.Refusal.{Refusal}
 use Rattle.words.specs.Bytes.{bytes}
 use Rattle.report.specs.Texts.{counted, saying}

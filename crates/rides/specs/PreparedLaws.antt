@@ -40,32 +40,33 @@ module _ {b : List ℕ} {n : ℕ} {given : Given} {runs : List ℕ} (before x : 
   rides_fit = omega (arith, long_x, mid_long starts_room x holds_starts, slots_few B.numbers)
 
   -- y is the part behind them with the rides written, z the room with that part
-  module _ (y : List ℕ) (K : SameFrom (buckets + slots_of given) (behind_starts x) y) {z : List ℕ} (f : z ≡ put_mid starts_room (length x - starts_room) x y) where
-    long_z : length z ≡ length x
-    long_z = ap length f ∙ same_len_mid starts_room (length x - starts_room) x y K.long
+  module _ (y : List ℕ) (K : SameFrom (buckets + slots_of given) (behind_starts x) y) {z : List ℕ} (f : z ≡ put_mid starts_room (length x - starts_room) x y)
+    where
+      long_z : length z ≡ length x
+      long_z = ap length f ∙ same_len_mid starts_room (length x - starts_room) x y K.long
 
-    front : (p : ℕ) → p < starts_room → get_or z p 0 ≡ get_or x p 0
-    front p lt = ap (λ l. get_or l p 0) f ∙ put_before starts_room x y holds_starts p lt
+      front : (p : ℕ) → p < starts_room → get_or z p 0 ≡ get_or x p 0
+      front p lt = ap (λ l. get_or l p 0) f ∙ put_before starts_room x y holds_starts p lt
 
-    part : behind_starts z ≡ y
-    part =
-        ext_get_or 0 (behind_starts z) y
-        (omega (arith, long_z, K.long, mid_long starts_room x holds_starts, mid_long starts_room z (omega (arith, long_z, holds_starts))))
-        (λ p _. mid_at starts_room z p ∙ ap (λ l. get_or l (starts_room + p) 0) f ∙ put_at starts_room x y holds_starts p)
+      part : behind_starts z ≡ y
+      part =
+          ext_get_or 0 (behind_starts z) y
+          (omega (arith, long_z, K.long, mid_long starts_room x holds_starts, mid_long starts_room z (omega (arith, long_z, holds_starts))))
+          (λ p _. mid_at starts_room z p ∙ ap (λ l. get_or l (starts_room + p) 0) f ∙ put_at starts_room x y holds_starts p)
 
-    pub prepared : Indexed (service_of given runs) (λ p. get_or y p 0) → Ground b n z given runs
-    prepared I = record {
-      long = omega (arith, long_z, holds_starts);
-      started = starts_kept (starts_written before B.file (omega arith) e) long_z front;
-      by_departure = rw part (record { numbers = B.numbers; long = omega (arith, K.long, rides_fit); are = I });
-    }
+      pub prepared : Indexed (service_of given runs) (λ p. get_or y p 0) → Ground b n z given runs
+      prepared I = record {
+        long = omega (arith, long_z, holds_starts);
+        started = starts_kept (starts_written before B.file (omega arith) e) long_z front;
+        by_departure = rw part (record { numbers = B.numbers; long = omega (arith, K.long, rides_fit); are = I });
+      }
 
-    pub beside : Beside n given before z
-    beside = record {
-      long = long_z ∙ long_x;
-      between = λ p gt lt. front p lt ∙ ap (λ l. get_or l p 0) e ∙ filled_beyond (start_of b) (2 * n + 1) before p (omega arith);
-      behind = rw part (record { long = K.long ∙ behind_long; beyond = λ p le. K.beyond p le ∙ behind_same p });
-    }
+      pub beside : Beside n given before z
+      beside = record {
+        long = long_z ∙ long_x;
+        between = λ p gt lt. front p lt ∙ ap (λ l. get_or l p 0) e ∙ filled_beyond (start_of b) (2 * n + 1) before p (omega arith);
+        behind = rw part (record { long = K.long ∙ behind_long; beyond = λ p le. K.beyond p le ∙ behind_same p });
+      }
 
 -- ---- no second room meets the contract
 module _ (b : List ℕ) (n : ℕ) (given : Given) (runs before x y : List ℕ) (P : Ground b n x given runs) (B : Beside n given before x)

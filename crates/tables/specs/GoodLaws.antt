@@ -126,7 +126,8 @@ good_judged_own b g =
       le-leb (header_bytes + entry_bytes * stops_of b) (length b) g.room.contents.fits,
       le-leb (labels_of b) most_labels g.room.few_labels,
       eq-eqb (length b) (place_of (stops_of b) (labels_of b)) g.room.exact,
-      first_of_all (bad_in_set b) (2 * stops_of b) (λ set lt. first_of_all (bad_label b set) (count_of b set) (λ i h. good_entry b set i (g.labels set i lt h))),
+      first_of_all (bad_in_set b) (2 * stops_of b) (λ set lt. first_of_all (bad_label b set) (count_of b set)
+          (λ i h. good_entry b set i (g.labels set i lt h))),
     )
 
 -- and bytes that are so are judged good

@@ -88,7 +88,10 @@ module _ (s : List ℕ) (a n : ℕ) where
   digits_other e = (past (all_b (is_digit_at s a) n) e (λ x. let y : ◌≡◌ {A = ℕ} 0 1 = cc in omega arith)).0
 
 -- ---- bytes of the form of a number are read as their value, where the field ends behind them
-pub number_good : (s : List ℕ) (a e n : ℕ) → NumberForm s a n → seek space s a e ≡ a + n → number_at s a e ≡ Good (record { value = value_of s a n; end = a + n })
+pub number_good : (s : List ℕ) (a e n : ℕ) → NumberForm s a n → seek space s a e ≡ a + n → number_at s a e ≡ Good (record {
+  value = value_of s a n;
+  end = a + n;
+})
 unfolding number_at is_number
 number_good s a e n f q =
     let m : a + n - a ≡ n = omega arith in

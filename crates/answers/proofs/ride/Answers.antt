@@ -11,7 +11,17 @@ pub code_at-to-requires : goal.code_at-to-requires
 code_at-to-requires c = omega (arith, ap (λ (x : Run). x.to) c.run_at-run.ensures, c.requires.ridden.to.listed)
 
 pub ride_line-requires : goal.ride_line-requires
-ride_line-requires c = record { longest_line_in_bounds = search rules; code_in = (rw (c.code_at-from.ensures, c.run_at-run.ensures) c.requires.ridden.from.code, rw (c.code_at-to.ensures, c.run_at-run.ensures) c.requires.ridden.to.code) }
+ride_line-requires c = record {
+  longest_line_in_bounds = search rules;
+  code_in = (
+    rw (c.code_at-from.ensures, c.run_at-run.ensures) c.requires.ridden.from.code,
+    rw (c.code_at-to.ensures, c.run_at-run.ensures)
+        c.requires.ridden.to.code,
+  );
+}
 
 pub returns : goal.returns
-returns c = record { wrote = rw (c.code_at-from.ensures, c.code_at-to.ensures, c.run_at-run.ensures) at c.ride_line.ensures.wrote; upper_bound = c.ride_line.ensures.upper_bound }
+returns c = record {
+  wrote = rw (c.code_at-from.ensures, c.code_at-to.ensures, c.run_at-run.ensures) at c.ride_line.ensures.wrote;
+  upper_bound = c.ride_line.ensures.upper_bound;
+}

@@ -8,7 +8,10 @@ pub judge_ask-judged-requires : goal.judge_ask-judged-requires
 judge_ask-judged-requires c = (judged_good _ _ (sym c.judge-read.ensures ∙ c.in-Good.is)).room.contents.few
 
 pub answer_good-requires : goal.answer_good-requires
-answer_good-requires c = record { good_file = judged_good _ _ (sym c.judge-read.ensures ∙ c.in-Good.is); good_ask = ask_good _ _ _ _ _ (sym c.judge_ask-judged.ensures ∙ c.in-Good-judged.is) }
+answer_good-requires c = record {
+  good_file = judged_good _ _ (sym c.judge-read.ensures ∙ c.in-Good.is);
+  good_ask = ask_good _ _ _ _ _ (sym c.judge_ask-judged.ensures ∙ c.in-Good-judged.is);
+}
 
 pub returns-in-Good-judged : goal.returns-in-Good-judged
 unfolding asked

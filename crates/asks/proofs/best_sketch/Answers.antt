@@ -5,7 +5,11 @@ pub over_outs-joined-requires : goal.over_outs-joined-requires
 over_outs-joined-requires c = sets_of c.requires.good_file c.requires.good_ask.from_stop c.requires.good_ask.to_stop c.outs_of-outs.ensures c.ins_of-ins.ensures
 
 pub over_ins-requires : goal.over_ins-requires
-over_ins-requires c = let t = sets_of c.requires.good_file c.requires.good_ask.from_stop c.requires.good_ask.to_stop c.outs_of-outs.ensures c.ins_of-ins.ensures in record { by_index = (_, _, _, t); ins_done = ins_begin t c.args.q.criterion c.over_outs-joined.ensures }
+over_ins-requires c = let t = sets_of c.requires.good_file c.requires.good_ask.from_stop c.requires.good_ask.to_stop c.outs_of-outs.ensures
+    c.ins_of-ins.ensures in record {
+      by_index = (_, _, _, t);
+      ins_done = ins_begin t c.args.q.criterion c.over_outs-joined.ensures;
+    }
 
 pub returns : goal.returns
 returns c = let t = sets_of c.requires.good_file c.requires.good_ask.from_stop c.requires.good_ask.to_stop c.outs_of-outs.ensures c.ins_of-ins.ensures in

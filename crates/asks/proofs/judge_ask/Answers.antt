@@ -9,7 +9,8 @@ returns-in_default c = rw (c.new.ensures, sym c.new-first.ensures ∙ c.in_defau
 
 pub returns-in_default-second : goal.returns-in_default-second
 unfolding ask_read
-returns-in_default-second c = rw (c.new-in_default-second.ensures, sym c.new-first.ensures ∙ c.in-Good.is, sym c.new-second.ensures ∙ c.in_default-second.is) refl
+returns-in_default-second c = rw (c.new-in_default-second.ensures, sym c.new-first.ensures ∙ c.in-Good.is, sym c.new-second.ensures ∙ c.in_default-second.is)
+    refl
 
 pub returns-then-u-v : goal.returns-then-u-v
 unfolding ask_read

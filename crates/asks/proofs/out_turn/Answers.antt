@@ -13,7 +13,8 @@ pub label_at-p-requires : goal.label_at-p-requires
 label_at-p-requires c = record { room = c.requires.by_index.3.in_set.file.room; k_bound = omega (arith, (set_bounds c.requires.by_index.3.in_set).1) }
 
 pub returns-then-p-l : goal.returns-then-p-l
-returns-then-p-l c = turn_met c.requires.by_index.3 c.requires.by_index.4 _ _ c.requires.found_in c.if-l-v.false c.label_at-p.ensures c.if-in_to-m.false c.if-p-l.true
+returns-then-p-l c = turn_met c.requires.by_index.3 c.requires.by_index.4 _ _ c.requires.found_in c.if-l-v.false c.label_at-p.ensures c.if-in_to-m.false
+    c.if-p-l.true
     c.take-then-p-l.ensures
 
 pub returns : goal.returns

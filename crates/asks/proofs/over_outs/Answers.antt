@@ -15,7 +15,10 @@ pub seek-m-requires : goal.seek-m-requires
 seek-m-requires c = record { room = c.requires.in_set.file.room; from_le_to = (search rules, (set_bounds c.requires.in_set).1) }
 
 pub out_turn-best-requires : goal.out_turn-best-requires
-out_turn-best-requires c = let t = out_turn_at c.requires c.args.c c.loop-k.invariant c.loop-k-test.true c.label_at-l.ensures c.seek-m.ensures in record { by_index = (_, _, _, c.requires, t); found_in = c.loop-k.invariant.found }
+out_turn-best-requires c = let t = out_turn_at c.requires c.args.c c.loop-k.invariant c.loop-k-test.true c.label_at-l.ensures c.seek-m.ensures in record {
+  by_index = (_, _, _, c.requires, t);
+  found_in = c.loop-k.invariant.found;
+}
 
 pub loop-k-preserved : goal.loop-k-preserved
 loop-k-preserved c = let t = out_turn_at c.requires c.args.c c.loop-k.invariant c.loop-k-test.true c.label_at-l.ensures

@@ -21,7 +21,11 @@ loop-k-init c = let e = c.slots-count.ensures.value ∙ sym (service_slots c.arg
 
 pub add-requires : goal.add-requires
 add-requires c = let n = service_slots c.args.given c.args.runs.now in
-    let I = c.loop-k.invariant in record { good_numbers = c.requires.good_numbers; i_bound = omega (arith, I.within, c.loop-k-test.true, n); i_in_bounds = omega (arith, I.within, I.kept.long, n, c.loop-k-test.true, c.requires.given_in_bounds, c.begin.auto.index) }
+    let I = c.loop-k.invariant in record {
+      good_numbers = c.requires.good_numbers;
+      i_bound = omega (arith, I.within, c.loop-k-test.true, n);
+      i_in_bounds = omega (arith, I.within, I.kept.long, n, c.loop-k-test.true, c.requires.given_in_bounds, c.begin.auto.index);
+    }
 
 pub loop-k-preserved : goal.loop-k-preserved
 loop-k-preserved c = let n = service_slots c.args.given c.args.runs.now in
@@ -36,4 +40,7 @@ returns c = let n = service_slots c.args.given c.args.runs.now in
     let e = c.slots-count.ensures.value ∙ sym n in
     let f = c.begin.ensures ∙ ap (λ (n : ℕ). filled (λ _. n) buckets c.args.index.now) e in
     let I = c.loop-k.invariant in
-    let K = same_then (same_none (service_of c.args.given c.args.runs.now) c.args.index.now f) I.kept in record { indexed = index_all _ I c.loop-k-test.false; same_from = subst (λ (m : ℕ). SameFrom (buckets + m) c.args.index.now c.loop-k.index) n K }
+    let K = same_then (same_none (service_of c.args.given c.args.runs.now) c.args.index.now f) I.kept in record {
+      indexed = index_all _ I c.loop-k-test.false;
+      same_from = subst (λ (m : ℕ). SameFrom (buckets + m) c.args.index.now c.loop-k.index) n K;
+    }

@@ -12,7 +12,8 @@ pub code_at-to-requires : goal.code_at-to-requires
 code_at-to-requires c = (c.requires.all_named.stop _ (label_to c.requires.good_file.0 c.ends_of-ends.ensures)).listed
 
 pub change_of-change-requires : goal.change_of-change-requires
-change_of-change-requires c = rw c.label_at-l.ensures (⊎_elim (λ h. inl h) (λ h. inr (c.requires.all_named.stop _ h).listed) (label_pivot c.requires.good_file.0 _ c.ends_of-ends.ensures))
+change_of-change-requires c = rw c.label_at-l.ensures (⊎_elim (λ h. inl h) (λ h. inr (c.requires.all_named.stop _ h).listed)
+    (label_pivot c.requires.good_file.0 _ c.ends_of-ends.ensures))
 
 pub label_line-requires : goal.label_line-requires
 label_line-requires c = record {

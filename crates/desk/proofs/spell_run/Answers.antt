@@ -21,4 +21,7 @@ run_line-requires c = record {
 }
 
 pub returns : goal.returns
-returns c = record { wrote = rw (c.code_at-from.ensures, c.code_at-to.ensures, c.run_at-run.ensures) at c.run_line.ensures.wrote; upper_bound = c.run_line.ensures.upper_bound }
+returns c = record {
+  wrote = rw (c.code_at-from.ensures, c.code_at-to.ensures, c.run_at-run.ensures) at c.run_line.ensures.wrote;
+  upper_bound = c.run_line.ensures.upper_bound;
+}

@@ -12,7 +12,10 @@ pub slice_bounds-answer-end-2 : goal.slice_bounds-answer-end-2
 slice_bounds-answer-end-2 c = sym (length-take-le c.args.z.tables c.args.tables.now c.requires.ready.tables_in)
 
 pub answer-answer-requires : goal.answer-answer-requires
-answer-answer-requires c = let w = line_within _ _ _ c.requires.at_value in record { placed = c.requires.ready.read.placed; from_le_to = (w.0, omega (arith, w.1)) }
+answer-answer-requires c = let w = line_within _ _ _ c.requires.at_value in record {
+  placed = c.requires.ready.read.placed;
+  from_le_to = (w.0, omega (arith, w.1));
+}
 
 pub turn_after-after-requires : goal.turn_after-after-requires
 turn_after-after-requires c = omega (arith, (line_within _ _ _ c.requires.at_value).1, c.requires.ready.short)

@@ -7,7 +7,11 @@ use Rattle.journey_lines.specs.InputLaws.{input_long, input_held}
 use Rattle.journey_lines.proofs.read_input.Goals as goal
 
 pub returns-then-input-gt-INPUT_MOST : goal.returns-then-input-gt-INPUT_MOST
-returns-then-input-gt-INPUT_MOST c = record { value = rw (input_long _ _ _ c.if-input-gt-INPUT_MOST.true) (ap No c.new.ensures); runs_after = rw (input_long _ _ _ c.if-input-gt-INPUT_MOST.true) (c.zero_u32.ensures ∙ zeros_is _); codes_after = rw (input_long _ _ _ c.if-input-gt-INPUT_MOST.true) (c.zero_u32-then-input-gt-INPUT_MOST.ensures ∙ zeros_is _) }
+returns-then-input-gt-INPUT_MOST c = record {
+  value = rw (input_long _ _ _ c.if-input-gt-INPUT_MOST.true) (ap No c.new.ensures);
+  runs_after = rw (input_long _ _ _ c.if-input-gt-INPUT_MOST.true) (c.zero_u32.ensures ∙ zeros_is _);
+  codes_after = rw (input_long _ _ _ c.if-input-gt-INPUT_MOST.true) (c.zero_u32-then-input-gt-INPUT_MOST.ensures ∙ zeros_is _);
+}
 
 pub slice_bounds-read-end : goal.slice_bounds-read-end
 slice_bounds-read-end c = sym (length-take-le c.timetable_end-end.result c.args.input.now (rw c.timetable_end-end.ensures (timetable_within c.args.input.now)))

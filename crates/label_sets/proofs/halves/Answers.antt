@@ -9,7 +9,8 @@ pub find-second-requires : goal.find-second-requires
 find-second-requires c = let p = c.requires.span_in in record { started = c.requires.started; u_lt_n = (p.pivot_stop c.requires.fact, p.to_stop) }
 
 pub returns-then-y-x : goal.returns-then-y-x
-returns-then-y-x c = no_meeting c.args.s (rw c.in-Found.is at c.find-first.ensures) (rw c.in-Found-second.is at c.find-second.ensures) (good_tables c.requires.started.file)
+returns-then-y-x c = no_meeting c.args.s (rw c.in-Found.is at c.find-first.ensures) (rw c.in-Found-second.is at c.find-second.ensures)
+    (good_tables c.requires.started.file)
     c.if-y-x.true
 
 pub returns-in-Missing : goal.returns-in-Missing

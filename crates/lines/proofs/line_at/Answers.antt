@@ -6,14 +6,20 @@ use Rattle.lines.specs.Lines.{line_of}
 use Rattle.lines.proofs.line_at.Goals as goal
 
 pub run_line-requires : goal.run_line-requires
-run_line-requires c = let l = begins_long _ _ _ _ (sym c.begins.ensures ∙ c.if-begins.true) in record { codes_indexed = c.requires.codes_indexed; stretch = record { low = omega (arith, c.requires.stretch.low); high = c.requires.stretch.high; short = c.requires.stretch.short } }
+run_line-requires c = let l = begins_long _ _ _ _ (sym c.begins.ensures ∙ c.if-begins.true) in record {
+  codes_indexed = c.requires.codes_indexed;
+  stretch = record { low = omega (arith, c.requires.stretch.low); high = c.requires.stretch.high; short = c.requires.stretch.short };
+}
 
 pub returns-then-begins : goal.returns-then-begins
 unfolding line_of
 returns-then-begins c = c.run_line.ensures ∙ simp (sym c.begins.ensures ∙ c.if-begins.true)
 
 pub stop_line-requires : goal.stop_line-requires
-stop_line-requires c = let l = begins_long _ _ _ _ (sym c.begins-2.ensures ∙ c.if-begins-2.true) in record { codes_indexed = c.requires.codes_indexed; stretch = record { low = omega (arith, c.requires.stretch.low); high = c.requires.stretch.high; short = c.requires.stretch.short } }
+stop_line-requires c = let l = begins_long _ _ _ _ (sym c.begins-2.ensures ∙ c.if-begins-2.true) in record {
+  codes_indexed = c.requires.codes_indexed;
+  stretch = record { low = omega (arith, c.requires.stretch.low); high = c.requires.stretch.high; short = c.requires.stretch.short };
+}
 
 pub returns-then-begins-2 : goal.returns-then-begins-2
 unfolding line_of

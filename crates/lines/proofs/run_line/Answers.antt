@@ -9,7 +9,10 @@ unfolding read_run_line
 returns-then-stops-eq0 c = simp (eq-eqb _ _ c.if-stops-eq0.true)
 
 pub run_fields-requires : goal.run_fields-requires
-run_fields-requires c = let e = sym c.fields_at-shape.ensures ∙ c.in-Good.is in record { codes_indexed = c.requires.codes_indexed; fields_within = fields_within _ _ _ _ e c.requires.stretch.low c.requires.stretch.high }
+run_fields-requires c = let e = sym c.fields_at-shape.ensures ∙ c.in-Good.is in record {
+  codes_indexed = c.requires.codes_indexed;
+  fields_within = fields_within _ _ _ _ e c.requires.stretch.low c.requires.stretch.high;
+}
 
 pub returns-in-Bad : goal.returns-in-Bad
 unfolding read_run_line

@@ -12,7 +12,14 @@ returns-then-not-is_code c = simp (le-ltb _ _ c.if-runs-gt0.false, ← c.is_code
 
 pub returns-then-j-stops : goal.returns-then-j-stops
 unfolding read_stop_line
-returns-then-j-stops c = simp (le-ltb _ _ c.if-runs-gt0.false, ← c.is_code.ensures, c.if-not-is_code.false-raw, ← c.find-j.ensures, lt-ltb _ _ c.if-j-stops.true)
+returns-then-j-stops c = simp (
+  le-ltb _ _ c.if-runs-gt0.false,
+  ← c.is_code.ensures,
+  c.if-not-is_code.false-raw,
+  ← c.find-j.ensures,
+  lt-ltb _ _
+      c.if-j-stops.true,
+)
 
 pub returns-then-stops-ge-MOST : goal.returns-then-stops-ge-MOST
 unfolding read_stop_line

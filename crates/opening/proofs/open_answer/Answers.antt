@@ -4,7 +4,10 @@ use Rattle.opening.specs.ChooseLaws.{none_chosen, way_in, chosen_listed, chosen_
 use Rattle.opening.proofs.open_answer.Goals as goal
 
 pub open_span-opened-requires : goal.open_span-opened-requires
-open_span-opened-requires c = record { ground = c.requires.ground; span_in = way_in c.requires.ground.started c.requires.u_lt_n (rw c.in-Through.is at c.way_of-way.ensures) }
+open_span-opened-requires c = record {
+  ground = c.requires.ground;
+  span_in = way_in c.requires.ground.started c.requires.u_lt_n (rw c.in-Through.is at c.way_of-way.ensures);
+}
 
 pub returns-in-Nowhere : goal.returns-in-Nowhere
 returns-in-Nowhere c = (none_chosen (rw c.in-Nowhere.is at c.way_of-way.ensures), c.zero_u32.ensures)

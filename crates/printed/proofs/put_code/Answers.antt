@@ -7,7 +7,10 @@ pub put_part-requires : goal.put_part-requires
 put_part-requires c = (simp length-set (omega (arith, c.requires.most_code_in_bounds, c.requires.code_in.short)), c.requires.code_in.within)
 
 pub returns : goal.returns
-returns c = let p = part_length c.args.text.now c.args.code.start c.args.code.length c.requires.code_in.within in record { wrote = wrote_after c.put_part.ensures; upper_bound = omega (arith, c.put_part.ensures.end, c.requires.code_in.short) }
+returns c = let p = part_length c.args.text.now c.args.code.start c.args.code.length c.requires.code_in.within in record {
+  wrote = wrote_after c.put_part.ensures;
+  upper_bound = omega (arith, c.put_part.ensures.end, c.requires.code_in.short);
+}
 
 pub shape_of-out : goal.shape_of-out
 shape_of-out c = simp length-set at c.put_part.auto.out

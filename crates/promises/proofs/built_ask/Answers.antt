@@ -27,4 +27,8 @@ returns-in-No-asked c = record {
 }
 
 pub returns-in-No : goal.returns-in-No
-returns-in-No c = record { built_ask = asked_refused _ _ _ _ c.build-answer.ensures.build_of (λ i. omega (arith, c.slice_known-3-1.given i)) _ _ _ c.in-No.is (refused_zero c.build-answer.ensures.build_of c.in-No.is); work_after = c.build-answer.ensures.work_after }
+returns-in-No c = record {
+  built_ask = asked_refused _ _ _ _ c.build-answer.ensures.build_of (λ i. omega (arith, c.slice_known-3-1.given i)) _ _ _ c.in-No.is
+      (refused_zero c.build-answer.ensures.build_of c.in-No.is);
+  work_after = c.build-answer.ensures.work_after;
+}

@@ -18,14 +18,16 @@ slice_bounds-answered-end-in-Built c = let e = wrote _ _ _ _ c.build-answer.ensu
 
 pub returns-in-At : goal.returns-in-At
 returns-in-At c = record {
-  built_rides = rides_built _ _ _ _ c.build-answer.ensures.build_of (λ i. omega (arith, c.slice_known-4-1.given i)) _ _ _ c.in-Built.is (ap length c.build-answer.ensures.work_after ∙ length-zeros _) _ _
+  built_rides = rides_built _ _ _ _ c.build-answer.ensures.build_of (λ i. omega (arith, c.slice_known-4-1.given i)) _ _ _ c.in-Built.is
+      (ap length c.build-answer.ensures.work_after ∙ length-zeros _) _ _
       c.in-At.is c.answered-asked.ensures.lists refl;
   work_after = c.answered-asked.ensures.work_after ∙ ap zeros c.build-answer.ensures.work_after ∙ zeros_again _;
 }
 
 pub returns-in-No-asked : goal.returns-in-No-asked
 returns-in-No-asked c = record {
-  built_rides = rides_built _ _ _ _ c.build-answer.ensures.build_of (λ i. omega (arith, c.slice_known-4-1.given i)) _ _ _ c.in-Built.is (ap length c.build-answer.ensures.work_after ∙ length-zeros _) _ _
+  built_rides = rides_built _ _ _ _ c.build-answer.ensures.build_of (λ i. omega (arith, c.slice_known-4-1.given i)) _ _ _ c.in-Built.is
+      (ap length c.build-answer.ensures.work_after ∙ length-zeros _) _ _
       c.in-No-asked.is
       c.answered-asked.ensures.lists c.zero_u8.ensures;
   work_after = c.answered-asked.ensures.work_after ∙ ap zeros c.build-answer.ensures.work_after ∙ zeros_again _;

@@ -7,10 +7,16 @@ use Rattle.reader.specs.ReadingLaws.{reading_none, reading_unfinished, reading_b
 use Rattle.reader.proofs.read_lines.Goals as goal
 
 pub returns-then-text-end : goal.returns-then-text-end
-returns-then-text-end c = record { value = rw (reading_unfinished c.loop-from.invariant c.seek-end.result c.seek-end.ensures.is c.if-text-end.true) c.refuse.ensures; filled_for = rw (reading_unfinished c.loop-from.invariant c.seek-end.result c.seek-end.ensures.is c.if-text-end.true) tt }
+returns-then-text-end c = record {
+  value = rw (reading_unfinished c.loop-from.invariant c.seek-end.result c.seek-end.ensures.is c.if-text-end.true) c.refuse.ensures;
+  filled_for = rw (reading_unfinished c.loop-from.invariant c.seek-end.result c.seek-end.ensures.is c.if-text-end.true) tt;
+}
 
 pub line_at-l-requires : goal.line_at-l-requires
-line_at-l-requires c = record { codes_indexed = c.loop-from.invariant.index; stretch = record { low = c.seek-end.ensures.low; high = c.seek-end.ensures.high; short = c.requires.short } }
+line_at-l-requires c = record {
+  codes_indexed = c.loop-from.invariant.index;
+  stretch = record { low = c.seek-end.ensures.low; high = c.seek-end.ensures.high; short = c.requires.short };
+}
 
 pub enter-requires : goal.enter-requires
 enter-requires c = let e = sym c.line_at-l.ensures ∙ c.in-Stop.is in
@@ -30,7 +36,8 @@ overflow_add-at c = omega (arith, c.if-text-end.false)
 
 pub loop-from-preserved-in-Stop : goal.loop-from-preserved-in-Stop
 loop-from-preserved-in-Stop c = let e = sym c.line_at-l.ensures ∙ c.in-Stop.is in
-    reading_stop c.loop-from.invariant c.seek-end.result c.seek-end.ensures.is c.if-text-end.false _ _ _ e c.enter.ensures.codes_after c.enter.ensures.codes_indexed_2
+    reading_stop c.loop-from.invariant c.seek-end.result c.seek-end.ensures.is c.if-text-end.false _ _ _ e c.enter.ensures.codes_after
+    c.enter.ensures.codes_indexed_2
 
 pub put_run-requires : goal.put_run-requires
 put_run-requires c = let e = sym c.line_at-l.ensures ∙ c.in-Run.is in
@@ -41,13 +48,23 @@ loop-from-preserved c = let e = sym c.line_at-l.ensures ∙ c.in-Run.is in
     reading_run c.loop-from.invariant c.seek-end.result c.seek-end.ensures.is c.if-text-end.false _ _ e c.put_run.ensures
 
 pub returns-then-end-text : goal.returns-then-end-text
-returns-then-end-text c = let e = sym c.line_at-l.ensures ∙ c.in-End.is in record { value = rw (reading_after c.loop-from.invariant c.seek-end.result c.seek-end.ensures.is c.if-text-end.false e c.if-end-text.true) c.refuse-then-end-text.ensures; filled_for = rw (reading_after c.loop-from.invariant c.seek-end.result c.seek-end.ensures.is c.if-text-end.false e c.if-end-text.true) tt }
+returns-then-end-text c = let e = sym c.line_at-l.ensures ∙ c.in-End.is in record {
+  value = rw (reading_after c.loop-from.invariant c.seek-end.result c.seek-end.ensures.is c.if-text-end.false e c.if-end-text.true)
+      c.refuse-then-end-text.ensures;
+  filled_for = rw (reading_after c.loop-from.invariant c.seek-end.result c.seek-end.ensures.is c.if-text-end.false e c.if-end-text.true) tt;
+}
 
 pub returns-in-End : goal.returns-in-End
-returns-in-End c = let e = sym c.line_at-l.ensures ∙ c.in-End.is in record { value = rw (reading_whole c.loop-from.invariant c.seek-end.result c.seek-end.ensures.is c.if-text-end.false e c.if-end-text.false) refl; filled_for = rw (reading_whole c.loop-from.invariant c.seek-end.result c.seek-end.ensures.is c.if-text-end.false e c.if-end-text.false) ((refl, refl)) }
+returns-in-End c = let e = sym c.line_at-l.ensures ∙ c.in-End.is in record {
+  value = rw (reading_whole c.loop-from.invariant c.seek-end.result c.seek-end.ensures.is c.if-text-end.false e c.if-end-text.false) refl;
+  filled_for = rw (reading_whole c.loop-from.invariant c.seek-end.result c.seek-end.ensures.is c.if-text-end.false e c.if-end-text.false) ((refl, refl));
+}
 
 pub returns-in-Bad : goal.returns-in-Bad
-returns-in-Bad c = let e = sym c.line_at-l.ensures ∙ c.in-Bad.is in record { value = rw (reading_bad c.loop-from.invariant c.seek-end.result c.seek-end.ensures.is c.if-text-end.false _ e) c.refuse-in-Bad.ensures; filled_for = rw (reading_bad c.loop-from.invariant c.seek-end.result c.seek-end.ensures.is c.if-text-end.false _ e) tt }
+returns-in-Bad c = let e = sym c.line_at-l.ensures ∙ c.in-Bad.is in record {
+  value = rw (reading_bad c.loop-from.invariant c.seek-end.result c.seek-end.ensures.is c.if-text-end.false _ e) c.refuse-in-Bad.ensures;
+  filled_for = rw (reading_bad c.loop-from.invariant c.seek-end.result c.seek-end.ensures.is c.if-text-end.false _ e) tt;
+}
 
 pub loop-from-init : goal.loop-from-init
 loop-from-init c = reading_none c.requires

@@ -13,11 +13,18 @@ returns-then-runs-lt-ROOM c = record { value = rw (lt-ltb _ _ c.if-runs-lt-ROOM.
 
 pub returns-then-codes-lt-CODES_ROOM : goal.returns-then-codes-lt-CODES_ROOM
 unfolding read_text
-returns-then-codes-lt-CODES_ROOM c = record { value = rw (le-ltb _ _ c.if-runs-lt-ROOM.false, lt-ltb _ _ c.if-codes-lt-CODES_ROOM.true) c.refuse-then-codes-lt-CODES_ROOM.ensures; filled_for = rw (le-ltb _ _ c.if-runs-lt-ROOM.false, lt-ltb _ _ c.if-codes-lt-CODES_ROOM.true) tt }
+returns-then-codes-lt-CODES_ROOM c = record {
+  value = rw (le-ltb _ _ c.if-runs-lt-ROOM.false, lt-ltb _ _ c.if-codes-lt-CODES_ROOM.true) c.refuse-then-codes-lt-CODES_ROOM.ensures;
+  filled_for = rw (le-ltb _ _ c.if-runs-lt-ROOM.false, lt-ltb _ _ c.if-codes-lt-CODES_ROOM.true) tt;
+}
 
 pub returns-then-text-gt-MOST : goal.returns-then-text-gt-MOST
 unfolding read_text
-returns-then-text-gt-MOST c = record { value = rw (le-ltb _ _ c.if-runs-lt-ROOM.false, le-ltb _ _ c.if-codes-lt-CODES_ROOM.false, lt-ltb _ _ c.if-text-gt-MOST.true) c.refuse-then-text-gt-MOST.ensures; filled_for = rw (le-ltb _ _ c.if-runs-lt-ROOM.false, le-ltb _ _ c.if-codes-lt-CODES_ROOM.false, lt-ltb _ _ c.if-text-gt-MOST.true) tt }
+returns-then-text-gt-MOST c = record {
+  value = rw (le-ltb _ _ c.if-runs-lt-ROOM.false, le-ltb _ _ c.if-codes-lt-CODES_ROOM.false, lt-ltb _ _ c.if-text-gt-MOST.true)
+      c.refuse-then-text-gt-MOST.ensures;
+  filled_for = rw (le-ltb _ _ c.if-runs-lt-ROOM.false, le-ltb _ _ c.if-codes-lt-CODES_ROOM.false, lt-ltb _ _ c.if-text-gt-MOST.true) tt;
+}
 
 pub read_lines-requires : goal.read_lines-requires
 read_lines-requires c = let l = begins_long _ _ _ _ (sym c.begins.ensures ∙ c.if-begins.true) in
@@ -35,10 +42,15 @@ pub returns-then-begins : goal.returns-then-begins
 unfolding read_text lines_of
 returns-then-begins c = let begins = sym c.begins.ensures ∙ c.if-begins.true in
     record {
-      value = rw (le-ltb _ _ c.if-runs-lt-ROOM.false, le-ltb _ _ c.if-codes-lt-CODES_ROOM.false, le-ltb _ _ c.if-text-gt-MOST.false, begins) c.read_lines.ensures.value;
-      filled_for = rw (le-ltb _ _ c.if-runs-lt-ROOM.false, le-ltb _ _ c.if-codes-lt-CODES_ROOM.false, le-ltb _ _ c.if-text-gt-MOST.false, begins) c.read_lines.ensures.filled_for;
+      value = rw (le-ltb _ _ c.if-runs-lt-ROOM.false, le-ltb _ _ c.if-codes-lt-CODES_ROOM.false, le-ltb _ _ c.if-text-gt-MOST.false, begins)
+          c.read_lines.ensures.value;
+      filled_for = rw (le-ltb _ _ c.if-runs-lt-ROOM.false, le-ltb _ _ c.if-codes-lt-CODES_ROOM.false, le-ltb _ _ c.if-text-gt-MOST.false, begins)
+          c.read_lines.ensures.filled_for;
     }
 
 pub returns : goal.returns
 unfolding read_text
-returns c = let begins = sym c.begins.ensures ∙ c.if-begins.false in record { value = rw (le-ltb _ _ c.if-runs-lt-ROOM.false, le-ltb _ _ c.if-codes-lt-CODES_ROOM.false, le-ltb _ _ c.if-text-gt-MOST.false, begins) c.refuse-2.ensures; filled_for = rw (le-ltb _ _ c.if-runs-lt-ROOM.false, le-ltb _ _ c.if-codes-lt-CODES_ROOM.false, le-ltb _ _ c.if-text-gt-MOST.false, begins) tt }
+returns c = let begins = sym c.begins.ensures ∙ c.if-begins.false in record {
+  value = rw (le-ltb _ _ c.if-runs-lt-ROOM.false, le-ltb _ _ c.if-codes-lt-CODES_ROOM.false, le-ltb _ _ c.if-text-gt-MOST.false, begins) c.refuse-2.ensures;
+  filled_for = rw (le-ltb _ _ c.if-runs-lt-ROOM.false, le-ltb _ _ c.if-codes-lt-CODES_ROOM.false, le-ltb _ _ c.if-text-gt-MOST.false, begins) tt;
+}

@@ -7,10 +7,17 @@ pub stop_count-n-requires : goal.stop_count-n-requires
 stop_count-n-requires c = (asked_good _ _ _ _ _ _ _ _ (sym c.judge-judged.ensures ∙ c.in-Good.is) _ refl).both.numbers.few
 
 pub prepare-requires : goal.prepare-requires
-prepare-requires c = let A = asked_good _ _ _ _ _ _ _ _ (sym c.judge-judged.ensures ∙ c.in-Good.is) _ c.stop_count-n.ensures in record { both_good = A.both; work_room_in_bounds = A.room }
+prepare-requires c = let A = asked_good _ _ _ _ _ _ _ _ (sym c.judge-judged.ensures ∙ c.in-Good.is) _ c.stop_count-n.ensures in record {
+  both_good = A.both;
+  work_room_in_bounds = A.room;
+}
 
 pub list_best-answer-requires : goal.list_best-answer-requires
-list_best-answer-requires c = let A = asked_good _ _ _ _ _ _ _ _ (sym c.judge-judged.ensures ∙ c.in-Good.is) _ c.stop_count-n.ensures in record { ground = c.prepare.ensures.ground; good_ask = A.good; list_value = zeros_as _ _ c.zero_u32.ensures refl }
+list_best-answer-requires c = let A = asked_good _ _ _ _ _ _ _ _ (sym c.judge-judged.ensures ∙ c.in-Good.is) _ c.stop_count-n.ensures in record {
+  ground = c.prepare.ensures.ground;
+  good_ask = A.good;
+  list_value = zeros_as _ _ c.zero_u32.ensures refl;
+}
 
 pub returns-in-No : goal.returns-in-No
 returns-in-No c = record { lists = rw (sym c.judge-judged.ensures ∙ c.in-No.is) (refl, c.zero_u32.ensures); work_after = c.zero_u16.ensures }

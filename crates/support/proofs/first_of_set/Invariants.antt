@@ -7,7 +7,8 @@ use Rattle.timetable.specs.Slots.{service_of}
 use Rattle.support.proofs.first_of_set.Given as goal
 
 abbrev pub invariant-loop-k : goal.invariant-loop-k
-invariant-loop-k l = (l.k ≤ l.end) × (l.end ≡ end_of l.tables l.set) × HoldsTo (SupportedAt (service_of l.given l.runs) (tables_of l.tables)) (start_of l.tables l.set) l.k
+invariant-loop-k l = (l.k ≤ l.end) × (l.end ≡ end_of l.tables l.set) × HoldsTo (SupportedAt (service_of l.given l.runs) (tables_of l.tables))
+    (start_of l.tables l.set) l.k
 
 abbrev pub decreases-loop-k : goal.decreases-loop-k
 decreases-loop-k l = l.end - l.k

@@ -12,7 +12,12 @@ returns-in-Missing c = not_marked (no_label_at (rw c.in-Missing.is at c.find-sou
 
 pub returns-then-l-ride : goal.returns-then-l-ride
 returns-then-l-ride c = let y = leaving_at (rw c.in-Found.is at c.find-sought.ensures) in
-    marked_at (good_tables c.requires.started.file) (rw c.if-l-ride.true at y) ((omega (arith, label_below c.requires.started.file (rw c.in-Found.is at c.find-sought.ensures).label, c.requires.work_room_in_bounds)))
+    marked_at (good_tables c.requires.started.file) (rw c.if-l-ride.true at y) ((omega (
+      arith,
+      label_below c.requires.started.file
+          (rw c.in-Found.is at c.find-sought.ensures).label,
+      c.requires.work_room_in_bounds,
+    )))
 
 pub returns-else-l-ride : goal.returns-else-l-ride
 returns-else-l-ride c = not_marked (other_label (good_tables c.requires.started.file) (rw c.in-Found.is at c.find-sought.ensures) c.if-l-ride.false)

@@ -24,7 +24,10 @@ returns-then-not-is_count c = simp (
 )
 
 pub judge_contents-requires : goal.judge_contents-requires
-judge_contents-requires c = record { bytes_value = sym c.stop_count-n.ensures; n_le_most_stops = (stop_count _ (sym c.is_count.ensures ∙ not-false _ c.if-not-is_count.false-raw)).1 }
+judge_contents-requires c = record {
+  bytes_value = sym c.stop_count-n.ensures;
+  n_le_most_stops = (stop_count _ (sym c.is_count.ensures ∙ not-false _ c.if-not-is_count.false-raw)).1;
+}
 
 pub returns : goal.returns
 unfolding judged_tables

@@ -11,7 +11,8 @@ pub returns-then-labels-gt-MOST : goal.returns-then-labels-gt-MOST
 returns-then-labels-gt-MOST c = ap No c.new-then-labels-gt-MOST.ensures ∙ sym (over_limit_lem _ (omega arith) (omega arith))
 
 pub returns-then-bytes-file_length : goal.returns-then-bytes-file_length
-returns-then-bytes-file_length c = ap No c.new-then-bytes-file_length.ensures ∙ sym (length_differs _ (omega arith) (omega arith) (λ e. c.if-bytes-file_length.true (omega arith)))
+returns-then-bytes-file_length c = ap No c.new-then-bytes-file_length.ensures ∙ sym (length_differs _ (omega arith) (omega arith)
+    (λ e. c.if-bytes-file_length.true (omega arith)))
 
 pub returns-in-AllGood : goal.returns-in-AllGood
 returns-in-AllGood c = ap Good (sym c.requires.bytes_value) ∙ sym (by_labels _ (omega arith) (omega arith) (omega arith)

@@ -12,7 +12,8 @@ pub loop-i-init : goal.loop-i-init
 loop-i-init c = (search rules, good_to_none)
 
 pub returns-then-not-good_label : goal.returns-then-not-good_label
-returns-then-not-good_label c = let e = good_to_bad c.loop-i.invariant.1 c.requires.room.contents.stops c.requires.start_value c.label_at-l.ensures c.good_label.ensures c.args.count
+returns-then-not-good_label c = let e = good_to_bad c.loop-i.invariant.1 c.requires.room.contents.stops c.requires.start_value c.label_at-l.ensures
+    c.good_label.ensures c.args.count
     (search rules) (not-true _ c.if-not-good_label.true-raw) in
     sym (ap labels_read (ap (first_of _) (sym c.requires.count_value) ∙ e))
 

@@ -14,7 +14,13 @@ pub loop-set-init : goal.loop-set-init
 loop-set-init c = (search rules, sym (start_none _), first_of_none _)
 
 pub judge_set-read-requires : goal.judge_set-read-requires
-judge_set-read-requires c = let lt : c.loop-set.set < 2 * stops_of c.args.bytes.now = omega arith in record { room = c.requires; set_bound = search rules; start_value = c.loop-set.invariant.1; count_value = c.count_of-count.ensures; count_bound = omega (arith, end_within c.args.bytes.now _ _ lt) }
+judge_set-read-requires c = let lt : c.loop-set.set < 2 * stops_of c.args.bytes.now = omega arith in record {
+  room = c.requires;
+  set_bound = search rules;
+  start_value = c.loop-set.invariant.1;
+  count_value = c.count_of-count.ensures;
+  count_bound = omega (arith, end_within c.args.bytes.now _ _ lt);
+}
 
 pub returns-in-BadAt : goal.returns-in-BadAt
 returns-in-BadAt c = let lt : c.loop-set.set < 2 * stops_of c.args.bytes.now =

@@ -10,7 +10,12 @@ returns-then-not-is_count c = simp (sym c.is_count.ensures ∙ not-true _ c.if-n
 
 pub returns-then-not-is_count-2 : goal.returns-then-not-is_count-2
 unfolding judged_of
-returns-then-not-is_count-2 c = simp (sym c.is_count.ensures ∙ not-false _ c.if-not-is_count.false-raw, sym c.is_count-2.ensures ∙ not-true _ c.if-not-is_count-2.true-raw, c.new-then-not-is_count-2.ensures)
+returns-then-not-is_count-2 c = simp (
+  sym c.is_count.ensures ∙ not-false _ c.if-not-is_count.false-raw,
+  sym c.is_count-2.ensures ∙ not-true _
+      c.if-not-is_count-2.true-raw,
+  c.new-then-not-is_count-2.ensures,
+)
 
 pub returns-then-runs-count : goal.returns-then-runs-count
 unfolding judged_of
@@ -34,7 +39,11 @@ returns-then-lent-needed c = simp (
 )
 
 pub judge_runs-requires : goal.judge_runs-requires
-judge_runs-requires c = record { stops_le_most_stops = (stop_count _ (sym c.is_count.ensures ∙ not-false _ c.if-not-is_count.false-raw)).1; count_le_most_runs = run_count _ (sym c.is_count-2.ensures ∙ not-false _ c.if-not-is_count-2.false-raw); count_in_bounds = c.if-runs-count.false }
+judge_runs-requires c = record {
+  stops_le_most_stops = (stop_count _ (sym c.is_count.ensures ∙ not-false _ c.if-not-is_count.false-raw)).1;
+  count_le_most_runs = run_count _ (sym c.is_count-2.ensures ∙ not-false _ c.if-not-is_count-2.false-raw);
+  count_in_bounds = c.if-runs-count.false;
+}
 
 pub returns : goal.returns
 unfolding judged_of

@@ -10,7 +10,10 @@ pub loop-k-init : goal.loop-k-init
 loop-k-init c = ins_begin c.requires.started _ _ c.requires.v_lt_n c.set_at-ins.ensures.0 c.set_at-ins.ensures.1 c.hub_minutes-s.ensures
 
 pub label_at-l-requires : goal.label_at-l-requires
-label_at-l-requires c = record { room = c.requires.started.file.room; k_bound = walk_label c.loop-k.invariant.walk c.loop-k-test.true c.requires.started.file c.requires.v_lt_n }
+label_at-l-requires c = record {
+  room = c.requires.started.file.room;
+  k_bound = walk_label c.loop-k.invariant.walk c.loop-k-test.true c.requires.started.file c.requires.v_lt_n;
+}
 
 pub hub_minutes-requires : goal.hub_minutes-requires
 hub_minutes-requires c = let h = walk_hub c.loop-k.invariant.walk c.loop-k-test.true c.requires.started.file c.requires.v_lt_n c.label_at-l.ensures in
@@ -20,7 +23,8 @@ pub loop-k-smaller : goal.loop-k-smaller
 loop-k-smaller c = omega (arith, c.loop-k-test.true)
 
 pub loop-k-preserved : goal.loop-k-preserved
-loop-k-preserved c = ins_more _ _ c.loop-k.invariant c.loop-k-test.true c.requires.started.file c.requires.v_lt_n c.label_at-l.ensures c.hub_minutes.ensures c.with_in-s.ensures
+loop-k-preserved c = ins_more _ _ c.loop-k.invariant c.loop-k-test.true c.requires.started.file c.requires.v_lt_n c.label_at-l.ensures c.hub_minutes.ensures
+    c.with_in-s.ensures
 
 pub returns : goal.returns
 returns c = ins_end _ _ c.loop-k.invariant c.loop-k-test.false

@@ -12,7 +12,12 @@ pub bounds-room-p : goal.bounds-room-p
 bounds-room-p c = omega (arith, c.loop-p.invariant.2.kept.long, c.loop-p-test.true, c.requires)
 
 pub loop-p-preserved : goal.loop-p-preserved
-loop-p-preserved c = (omega (arith, c.loop-p.invariant.0), search rules, clear_more c.loop-p.invariant.0 (omega (arith, c.loop-p-test.true, c.requires)) c.loop-p.invariant.2)
+loop-p-preserved c = (
+  omega (arith, c.loop-p.invariant.0),
+  search rules,
+  clear_more c.loop-p.invariant.0 (omega (arith, c.loop-p-test.true, c.requires))
+      c.loop-p.invariant.2,
+)
 
 pub shape_of-room : goal.shape_of-room
 shape_of-room c = c.loop-p.invariant.2.kept.long

@@ -7,7 +7,8 @@ use lib.ListN.{length}
 use Rattle.timetable.specs.SlotsLaws.{service_slots, read_ride, read_none}
 use Rattle.verdict.specs.GapLaws.{ride_in, searched_none, searched_idle, no_gaps, stops_begin, stops_more, stops_end, stops_fail}
 use Rattle.verdict.proofs.first_gap.Goals as goal
-use Rattle.verdict.proofs.first_gap.Goals.{in-NotInForce, in-InForce+else-loop-v-test, else-search-test, then-search-test+in-InForce+then-loop-v-test+then-not-no_gap}
+use Rattle.verdict.proofs.first_gap.Goals.{in-NotInForce, in-InForce+else-loop-v-test, else-search-test}
+use Rattle.verdict.proofs.first_gap.Goals.{then-search-test+in-InForce+then-loop-v-test+then-not-no_gap}
 
 pub slots-slots-requires : goal.slots-slots-requires
 slots-slots-requires c = c.requires.both_good.numbers.few_runs
@@ -20,7 +21,11 @@ ride_at-read-requires c = record { good_numbers = c.requires.both_good.numbers; 
 
 pub reach_both-requires : goal.reach_both-requires
 reach_both-requires c = let R = read_ride c.requires.both_good.numbers _
-    (omega (arith, c.slots-slots.ensures.value, c.search-test.true)) (sym c.ride_at-read.ensures ∙ c.in-InForce.is) in record { started = c.search.invariant.1.started; ride_in = ride_in c.requires.both_good R; both_room_in_bounds = omega (arith, c.search.invariant.1.long, c.requires.both_good.file.room.contents.few) }
+    (omega (arith, c.slots-slots.ensures.value, c.search-test.true)) (sym c.ride_at-read.ensures ∙ c.in-InForce.is) in record {
+      started = c.search.invariant.1.started;
+      ride_in = ride_in c.requires.both_good R;
+      both_room_in_bounds = omega (arith, c.search.invariant.1.long, c.requires.both_good.file.room.contents.few);
+    }
 
 pub loop-v-init : goal.loop-v-init
 loop-v-init c = let R = read_ride c.requires.both_good.numbers _
@@ -37,16 +42,24 @@ pub search-preserved : goal.search-preserved
 search-preserved c = let n = service_slots c.args.given c.args.runs.now in
     elim c.match-read.branch [
       | in-NotInForce w ↦
-          let f = read_none c.requires.both_good.numbers _ (sym c.ride_at-read.ensures ∙ w.in-NotInForce.is) in
-          (ap length w.room-is ∙ c.search.invariant.0, searched_idle c.search.invariant.1 w.room-is (omega (arith, n, c.slots-slots.ensures.value, c.search-test.true)) f)
-      | in-InForce+else-loop-v-test w ↦ (ap length w.room-is ∙ w.reach_both.auto.room ∙ c.search.invariant.0, stops_end w.loop-v.invariant w.room-is w.loop-v-test.false)
+          let f = read_none c.requires.both_good.numbers _ (sym c.ride_at-read.ensures ∙ w.in-NotInForce.is) in (
+            ap length w.room-is ∙ c.search.invariant.0,
+            searched_idle c.search.invariant.1 w.room-is
+                (omega (arith, n, c.slots-slots.ensures.value, c.search-test.true)) f,
+          )
+      | in-InForce+else-loop-v-test w ↦ (
+        ap length w.room-is ∙ w.reach_both.auto.room ∙ c.search.invariant.0,
+        stops_end w.loop-v.invariant w.room-is
+            w.loop-v-test.false,
+      )
     ]
 
 pub returns-then-i-slots : goal.returns-then-i-slots
 returns-then-i-slots c =
     elim c.search-test.branch [
       | else-search-test w ↦ absurd (omega (arith, w.search-test.false, c.if-i-slots.true))
-      | then-search-test+in-InForce+then-loop-v-test+then-not-no_gap w ↦ rw w.v-is (stops_fail w.loop-v.invariant w.loop-v-test.true w.no_gap.ensures (not-true _ w.if-not-no_gap.true-raw))
+      | then-search-test+in-InForce+then-loop-v-test+then-not-no_gap w ↦ rw w.v-is (stops_fail w.loop-v.invariant w.loop-v-test.true w.no_gap.ensures
+          (not-true _ w.if-not-no_gap.true-raw))
     ]
 
 pub returns : goal.returns
