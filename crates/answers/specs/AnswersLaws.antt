@@ -14,7 +14,7 @@ use Rattle.tables.specs.File.{tables_of}
 use Rattle.timetable.specs.declared.Given.{Given}
 use Rattle.timetable.specs.Numbers.{run_at, GoodRunAt}
 use Rattle.timetable.specs.Slots.{slots_of, slot_run, listed, service_of}
-use Rattle.timetable.specs.SlotsLaws.{service_slots, slot_run_below, listed-length, listed_at}
+use Rattle.timetable.proofs.SlotsLaws.{service_slots, slot_run_below, listed-length, listed_at}
 use Rattle.reader.specs.Text.{GoodRead}
 use Rattle.reader.specs.TextLaws.{named_all}
 use Rattle.asks.specs.declared.AskRead.{AskRead}

@@ -1,11 +1,6 @@
 pub mod Found
-pub mod FoundLaws
 pub mod Candidates
-pub mod CandidateLaws
 pub mod Join
-pub mod JoinLaws
 pub mod Asks
 pub mod Permitted
 pub mod Reasons
-pub mod PermittedLaws
-pub mod AskLaws

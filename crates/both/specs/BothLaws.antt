@@ -11,9 +11,9 @@ use Rattle.timetable.specs.declared.Given.{Given}
 use Rattle.timetable.specs.declared.Judged.{Judged}
 use Rattle.timetable.specs.declared.Judged.TheVariants as numbers
 use Rattle.timetable.specs.Numbers.{judged_of, GoodNumbers}
-use Rattle.timetable.specs.NumbersLaws as timetable
+use Rattle.timetable.proofs.NumbersLaws as timetable
 use Rattle.timetable.specs.Slots.{service_of}
-use Rattle.timetable.specs.SlotsLaws.{service_stops}
+use Rattle.timetable.proofs.SlotsLaws.{service_stops}
 use Rattle.both.specs.Both.{judged_both, work_room, BothGood}
 
 by_both : (t : TablesRead) (j : Judged) (stops n : ℕ) → judged_both t j stops ≡ tables.Good n → (t ≡ tables.Good n) × (j ≡ numbers.Good) × (n ≡ stops)

@@ -12,7 +12,7 @@ use Rattle.tables.specs.File.{place_of, tables_of, AreBytes}
 use Rattle.tables.specs.GoodLaws.{good_judged}
 use Rattle.tables.specs.OneFile.{SameLabels}
 use Rattle.tables.specs.OneFileLaws.{one_file}
-use Rattle.counts.specs.SumLaws.{sum_same}
+use Rattle.counts.proofs.SumLaws.{sum_same}
 use Rattle.counts.specs.Sets.{SetsTo, CountedAll}
 use Rattle.builder.specs.Contents.{Sized}
 use Rattle.builder.specs.Writing.{WrittenTo}

@@ -18,7 +18,7 @@ use Rattle.tables.specs.File.{set_of, owner_of, count_of, start_of, end_of, labe
 use Rattle.tables.specs.TablesLaws.{pivot_some, pivot_is, set_below, set_owner}
 use Rattle.tables.specs.Good.{After, higher, later, LabelGood, GoodFile}
 use Rattle.counts.specs.Sums.{sum}
-use Rattle.counts.specs.SumLaws.{sum_none, sum_suc, rows_sum, rows_all}
+use Rattle.counts.proofs.SumLaws.{sum_none, sum_suc, rows_sum, rows_all}
 use Rattle.builder.specs.Places.{in_group, in_set, group_start, set_for, hub_for, pair_start, Stands}
 use Rattle.builder.specs.PlaceLaws.{set_out, set_in, group_out, group_in, pair_group, pair_below, pair_of, start_below, group_within, groups_rise}
 use Rattle.builder.specs.PlaceLaws.{set_located, sets_all}

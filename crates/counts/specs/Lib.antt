@@ -1,17 +1,7 @@
 pub mod Count
-pub mod CountLaws
 pub mod Sums
-pub mod SumLaws
 pub mod Labels
-pub mod LabelLaws
-pub mod RowLaws
 pub mod Found
-pub mod TallyLaws
 pub mod Walk
-pub mod WalkLaws
-pub mod LinkLaws
-pub mod StepLaws
 pub mod Sets
-pub mod SetLaws
 pub mod Log
-pub mod LogLaws

@@ -20,9 +20,9 @@ use Rattle.tables.specs.declared.TablesRead.{TablesRead}
 use Rattle.tables.specs.declared.TablesRead.TheVariants as tables
 use Rattle.timetable.specs.declared.Given.{Given}
 use Rattle.timetable.specs.Numbers.{judged_of, NumbersRefusal}
-use Rattle.timetable.specs.NumbersLaws.{numbers_refusal}
+use Rattle.timetable.proofs.NumbersLaws.{numbers_refusal}
 use Rattle.timetable.specs.Slots.{slots_of, slot_run, service_of}
-use Rattle.timetable.specs.SlotsLaws.{service_slots, slot_run_below}
+use Rattle.timetable.proofs.SlotsLaws.{service_slots, slot_run_below}
 use Rattle.timetable.specs.declared.Judged.{Judged}
 use Rattle.timetable.specs.declared.Judged.TheVariants as numbers
 use Rattle.verdict.specs.declared.Verdict.TheVariants.{No}

@@ -9,7 +9,7 @@ use Rattle.asks.specs.declared.Answer.{Answer}
 use Rattle.asks.specs.declared.AskRead.{AskRead}
 use Rattle.asks.specs.declared.Wanted.{Wanted}
 use Rattle.asks.specs.Asks.{Answers}
-use Rattle.asks.specs.AskLaws.{answers_one}
+use Rattle.asks.proofs.AskLaws.{answers_one}
 use Rattle.verdict.specs.declared.Verdict.{Verdict}
 use Rattle.verdict.specs.Verdict.{Checked}
 use Rattle.verdict.specs.VerdictLaws.{checked_one}

@@ -18,7 +18,7 @@ use Rattle.tables.specs.File.{tables_of, pivot_of}
 use Rattle.tables.specs.TablesLaws.{pivot_none, pivot_some, good_tables}
 use Rattle.timetable.specs.declared.Given.{Given}
 use Rattle.timetable.specs.Slots.{slots_of, slot_run, listed, service_of}
-use Rattle.timetable.specs.SlotsLaws.{service_slots, listed_one, listed-append, listed-length}
+use Rattle.timetable.proofs.SlotsLaws.{service_slots, listed_one, listed-append, listed-length}
 use Rattle.label_sets.specs.declared.Span.{Span}
 use Rattle.label_sets.specs.declared.Meeting.{Meeting}
 use Rattle.label_sets.specs.Starts.{Started}

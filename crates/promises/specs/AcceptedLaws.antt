@@ -16,7 +16,7 @@ use Rattle.tables.specs.TablesLaws.{good_tables, good_stops}
 use Rattle.timetable.specs.declared.Given.{Given}
 use Rattle.timetable.specs.Numbers.{GoodNumbers}
 use Rattle.timetable.specs.Slots.{service_of}
-use Rattle.timetable.specs.SlotsLaws.{good_service, service_stops}
+use Rattle.timetable.proofs.SlotsLaws.{good_service, service_stops}
 use Rattle.asks.specs.declared.AskRead.{AskRead}
 use Rattle.asks.specs.declared.AskRead.TheVariants as ask
 use Rattle.asks.specs.declared.Asked.{Asked}
@@ -24,7 +24,7 @@ use Rattle.asks.specs.declared.Wanted.{Wanted}
 use Rattle.asks.specs.declared.Answer.{Answer}
 use Rattle.asks.specs.declared.Answer.TheVariants.{At, No}
 use Rattle.asks.specs.Asks.{ask_read, asked, Answers}
-use Rattle.asks.specs.AskLaws.{ask_good, asked_of}
+use Rattle.asks.proofs.AskLaws.{ask_good, asked_of}
 use Rattle.verdict.specs.declared.Verdict.{Verdict}
 use Rattle.verdict.specs.declared.Verdict.TheVariants as verdict
 use Rattle.both.specs.Both.{work_room}

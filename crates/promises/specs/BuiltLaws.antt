@@ -15,8 +15,8 @@ use Rattle.tables.specs.TablesLaws.{good_tables}
 use Rattle.timetable.specs.declared.Given.{Given}
 use Rattle.timetable.specs.Numbers.{GoodNumbers}
 use Rattle.timetable.specs.Slots.{service_of}
-use Rattle.timetable.specs.NumbersLaws as numbers
-use Rattle.timetable.specs.SlotsLaws.{good_service, service_stops}
+use Rattle.timetable.proofs.NumbersLaws as numbers
+use Rattle.timetable.proofs.SlotsLaws.{good_service, service_stops}
 use Rattle.asks.specs.declared.Wanted.{Wanted}
 use Rattle.asks.specs.declared.Answer.{Answer}
 use Rattle.asks.specs.declared.Answer.TheVariants.{No}

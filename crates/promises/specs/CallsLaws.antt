@@ -9,7 +9,7 @@ use Rattle.asks.specs.declared.AskRead.TheVariants as ask
 use Rattle.asks.specs.declared.Wanted.{Wanted}
 use Rattle.asks.specs.declared.Answer.{Answer}
 use Rattle.asks.specs.Asks.{ask_read}
-use Rattle.asks.specs.AskLaws.{answers_one}
+use Rattle.asks.proofs.AskLaws.{answers_one}
 use Rattle.timetable.specs.declared.Given.{Given}
 use Rattle.timetable.specs.Slots.{service_of}
 use Rattle.tables.specs.File.{tables_of}

@@ -11,10 +11,10 @@ use Rattle.tables.specs.TablesLaws.{good_tables}
 use Rattle.timetable.specs.declared.Given.{Given}
 use Rattle.timetable.specs.Numbers.{GoodNumbers}
 use Rattle.timetable.specs.Slots.{service_of}
-use Rattle.timetable.specs.NumbersLaws.{numbers_judged}
-use Rattle.timetable.specs.SlotsLaws.{good_service, service_stops}
+use Rattle.timetable.proofs.NumbersLaws.{numbers_judged}
+use Rattle.timetable.proofs.SlotsLaws.{good_service, service_stops}
 use Rattle.asks.specs.Permitted.{criterion_of}
-use Rattle.asks.specs.PermittedLaws.{ask_permitted}
+use Rattle.asks.proofs.PermittedLaws.{ask_permitted}
 use Rattle.both.specs.Both.{work_room}
 use Rattle.verdict.specs.declared.Verdict.{Verdict}
 use Rattle.verdict.specs.declared.Verdict.TheVariants as verdict

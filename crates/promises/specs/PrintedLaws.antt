@@ -9,14 +9,14 @@ use Rattle.tables.specs.File.{file_room, tables_of}
 use Rattle.timetable.specs.declared.Given.{Given}
 use Rattle.timetable.specs.Numbers.{given_of, GoodNumbers}
 use Rattle.timetable.specs.Slots.{listed, service_of}
-use Rattle.timetable.specs.SlotsLaws.{listed-length}
+use Rattle.timetable.proofs.SlotsLaws.{listed-length}
 use Rattle.reader.specs.declared.Counts.{Counts}
 use Rattle.reader.specs.declared.ReadAnswer.TheVariants as read
 use Rattle.reader.specs.Text.{answer_of, runs_of, codes_of}
 use Rattle.asks.specs.declared.AskRead.{AskRead}
 use Rattle.asks.specs.Permitted as ask
 use Rattle.asks.specs.Permitted.{criterion_of, Permitted, AskIs}
-use Rattle.asks.specs.PermittedLaws.{ask_is}
+use Rattle.asks.proofs.PermittedLaws.{ask_is}
 use Rattle.both.specs.Both.{work_room}
 use Rattle.rides.specs.declared.RidesAnswer.{RidesAnswer}
 use Rattle.rides.specs.declared.RidesAnswer.TheVariants.{At, No}

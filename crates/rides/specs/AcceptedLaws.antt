@@ -16,7 +16,7 @@ use Rattle.tables.specs.File.{tables_of}
 use Rattle.tables.specs.TablesLaws.{good_stops, good_tables}
 use Rattle.timetable.specs.declared.Given.{Given}
 use Rattle.timetable.specs.Slots.{listed, service_of}
-use Rattle.timetable.specs.SlotsLaws.{good_service}
+use Rattle.timetable.proofs.SlotsLaws.{good_service}
 use Rattle.both.specs.BothLaws.{both_stops}
 use Rattle.asks.specs.declared.Wanted.{Wanted}
 use Rattle.asks.specs.declared.Asked.{Asked}

@@ -24,13 +24,13 @@ use Rattle.tables.specs.TablesLaws.{good_tables}
 use Rattle.timetable.specs.declared.Given.{Given}
 use Rattle.timetable.specs.Numbers.{judged_of, GoodNumbers}
 use Rattle.timetable.specs.Slots.{listed, service_of}
-use Rattle.timetable.specs.SlotsLaws.{listed-length}
+use Rattle.timetable.proofs.SlotsLaws.{listed-length}
 use Rattle.asks.specs.declared.Wanted.{Wanted}
 use Rattle.asks.specs.declared.Asked.{Asked}
 use Rattle.asks.specs.declared.AskRead.{AskRead}
 use Rattle.asks.specs.declared.AskRead.TheVariants as ask
 use Rattle.asks.specs.Asks.{if_tables, ask_read}
-use Rattle.asks.specs.AskLaws.{ask_good}
+use Rattle.asks.proofs.AskLaws.{ask_good}
 use Rattle.both.specs.Both.{judged_both, work_room, BothGood}
 use Rattle.both.specs.BothLaws.{both_good, judged_both_lem}
 use Rattle.opening.specs.Opening as opening

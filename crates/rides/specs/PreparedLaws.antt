@@ -9,7 +9,7 @@ use Rattle.loops.specs.PartLaws.{mid_at, mid_long, put_before, put_at}
 use Rattle.tables.specs.File.{start_of}
 use Rattle.timetable.specs.declared.Given.{Given}
 use Rattle.timetable.specs.Slots.{slots_of, service_of}
-use Rattle.timetable.specs.SlotsLaws.{service_slots, slots_few}
+use Rattle.timetable.proofs.SlotsLaws.{service_slots, slots_few}
 use Rattle.departures.specs.Departures.{buckets, Indexed, SameFrom}
 use Rattle.departures.specs.DeparturesLaws.{index_one}
 use Rattle.label_sets.specs.Starts.{starts_room}

@@ -1,13 +1,6 @@
 pub mod Events
-pub mod EventLaws
 pub mod Scan
 pub mod Scanned
 pub mod Closed
 pub mod Ordered
-pub mod ShuffledLaws
-pub mod OrderedLaws
 pub mod Lists
-pub mod ScanLaws
-pub mod ListsLaws
-pub mod EarlyLaws
-pub mod PromiseLaws

@@ -18,7 +18,7 @@ use Rattle.tables.specs.TablesLaws.{entry_only, good_stops, tables_within}
 use Rattle.tables.specs.Good.{GoodFile}
 use Rattle.timetable.specs.declared.Given.{Given}
 use Rattle.timetable.specs.Slots.{service_of, IsRide}
-use Rattle.timetable.specs.SlotsLaws.{good_service, ride_is, is_ride}
+use Rattle.timetable.proofs.SlotsLaws.{good_service, ride_is, is_ride}
 use Rattle.label_sets.specs.Starts.{starts_room}
 use Rattle.label_sets.specs.StartsLaws.{starts_written, starts_kept}
 use Rattle.label_sets.specs.declared.Span.{Span}

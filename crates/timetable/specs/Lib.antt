@@ -1,4 +1,2 @@
 pub mod Numbers
-pub mod NumbersLaws
 pub mod Slots
-pub mod SlotsLaws

@@ -14,7 +14,7 @@ use Rattle.tables.specs.File.{tables_of}
 use Rattle.tables.specs.TablesLaws.{good_tables}
 use Rattle.timetable.specs.declared.Given.{Given}
 use Rattle.timetable.specs.Slots.{service_of, IsRide}
-use Rattle.timetable.specs.SlotsLaws.{good_service, ride_is}
+use Rattle.timetable.proofs.SlotsLaws.{good_service, ride_is}
 use Rattle.label_sets.specs.Starts.{starts_room, Started}
 use Rattle.label_sets.specs.StartsLaws.{started_stops, started_few}
 use Rattle.both.specs.Both.{work_room, BothGood}

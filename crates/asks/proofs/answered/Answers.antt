@@ -1,7 +1,7 @@
 use mathlib.Core.Path.{refl, sym, ◌∙◌}
 use Rattle.tables.specs.GoodLaws.{judged_good}
 use Rattle.asks.specs.Asks.{asked}
-use Rattle.asks.specs.AskLaws.{ask_good}
+use Rattle.asks.proofs.AskLaws.{ask_good}
 use Rattle.asks.proofs.answered.Goals as goal
 
 pub judge_ask-judged-requires : goal.judge_ask-judged-requires

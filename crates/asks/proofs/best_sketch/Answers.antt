@@ -1,4 +1,4 @@
-use Rattle.asks.specs.JoinLaws.{sets_of, ins_begin, ins_found}
+use Rattle.asks.proofs.JoinLaws.{sets_of, ins_begin, ins_found}
 use Rattle.asks.proofs.best_sketch.Goals as goal
 
 pub over_outs-joined-requires : goal.over_outs-joined-requires

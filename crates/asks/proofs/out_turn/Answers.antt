@@ -1,6 +1,6 @@
 use native.Mathlib.Omega.{arith}
 use Rattle.label_sets.specs.SetsLaws.{set_bounds}
-use Rattle.asks.specs.JoinLaws.{turn_own, turn_end, turn_met, turn_none}
+use Rattle.asks.proofs.JoinLaws.{turn_own, turn_end, turn_met, turn_none}
 use Rattle.asks.proofs.out_turn.Goals as goal
 
 pub returns-then-l-v : goal.returns-then-l-v

@@ -1,7 +1,7 @@
 use Prim.Native.Nat.{◌-◌}
 use native.Mathlib.Omega.{arith}
 use Rattle.label_sets.specs.SetsLaws.{set_bounds}
-use Rattle.asks.specs.JoinLaws.{ins_again, ins_stop, ins_done}
+use Rattle.asks.proofs.JoinLaws.{ins_again, ins_stop, ins_done}
 use Rattle.asks.proofs.over_ins.Goals as goal
 
 pub loop-k-init : goal.loop-k-init

@@ -2,7 +2,7 @@ use borrow.Author.Rules.{rules}
 use Prim.Native.Nat.{◌-◌}
 use native.Mathlib.Omega.{arith}
 use Rattle.label_sets.specs.SetsLaws.{set_bounds}
-use Rattle.asks.specs.JoinLaws.{outs_begin, out_turn_at, outs_again, outs_done}
+use Rattle.asks.proofs.JoinLaws.{outs_begin, out_turn_at, outs_again, outs_done}
 use Rattle.asks.proofs.over_outs.Goals as goal
 
 pub loop-k-init : goal.loop-k-init

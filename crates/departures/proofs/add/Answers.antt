@@ -1,7 +1,7 @@
 use mathlib.Core.Path.{sym, ap, ◌∙◌}
 use native.Mathlib.Omega.{arith}
 use lib.ListN.{length-set}
-use Rattle.timetable.specs.SlotsLaws.{service_slots, read_ride, read_idle}
+use Rattle.timetable.proofs.SlotsLaws.{service_slots, read_ride, read_idle}
 use Rattle.departures.specs.Departures.{bucket_of}
 use Rattle.departures.specs.DeparturesLaws.{with_ride, with_none}
 use Rattle.departures.proofs.add.Goals as goal

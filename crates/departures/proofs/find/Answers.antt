@@ -4,7 +4,7 @@ use native.Mathlib.Omega.{arith}
 use Rattle.loops.specs.First.{FirstAt}
 use Rattle.journeys.specs.Service.{RideAt}
 use Rattle.timetable.specs.Slots.{service_of}
-use Rattle.timetable.specs.SlotsLaws.{service_slots}
+use Rattle.timetable.proofs.SlotsLaws.{service_slots}
 use Rattle.departures.specs.DeparturesLaws.{walk_begin, walk_end, walk_found, walk_on}
 use Rattle.departures.proofs.find.Goals as goal
 

@@ -4,7 +4,7 @@ use native.Mathlib.Omega.{arith}
 use borrow.Author.Rules.{rules}
 use Rattle.loops.specs.Filled.{filled}
 use Rattle.timetable.specs.Slots.{service_of}
-use Rattle.timetable.specs.SlotsLaws.{service_slots}
+use Rattle.timetable.proofs.SlotsLaws.{service_slots}
 use Rattle.departures.specs.Departures.{buckets, SameFrom}
 use Rattle.departures.specs.Turns.{IndexedFrom}
 use Rattle.departures.specs.DeparturesLaws.{same_none, index_none, same_then, index_more, index_all}

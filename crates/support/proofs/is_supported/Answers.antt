@@ -1,5 +1,5 @@
 use native.Mathlib.Omega.{arith}
-use Rattle.timetable.specs.SlotsLaws.{service_slots}
+use Rattle.timetable.proofs.SlotsLaws.{service_slots}
 use Rattle.support.specs.SpanLaws.{by_ride, by_halves, no_halves}
 use Rattle.support.proofs.is_supported.Goals as goal
 

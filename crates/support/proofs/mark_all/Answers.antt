@@ -3,7 +3,7 @@ use mathlib.Core.Path.{refl, sym, ap, subst, ◌∙◌}
 use mathlib.Core.Logic.{⊎_elim}
 use native.Mathlib.Omega.{arith}
 use lib.ListN.{length}
-use Rattle.timetable.specs.SlotsLaws.{read_ride, read_none}
+use Rattle.timetable.proofs.SlotsLaws.{read_ride, read_none}
 use Rattle.support.specs.Marks.{MarkedWith, MarkedTo}
 use Rattle.support.specs.MarkLaws.{ride_ends, marks_begin, marks_more, marks_idle}
 use Rattle.support.proofs.mark_all.Goals as goal

@@ -1,6 +1,6 @@
 use mathlib.Core.Path.{sym, ◌∙◌}
 use Rattle.loops.specs.TellsLaws.{tells_as, tells_no}
-use Rattle.timetable.specs.SlotsLaws.{read_ride, read_none, ride_is, is_ride}
+use Rattle.timetable.proofs.SlotsLaws.{read_ride, read_none, ride_is, is_ride}
 use Rattle.timetable.proofs.ride_is.Goals as goal
 
 pub returns-in-InForce : goal.returns-in-InForce

@@ -1,6 +1,6 @@
 use mathlib.Core.Path.{refl, ap}
 use native.Mathlib.Omega.{arith}
-use Rattle.timetable.specs.SlotsLaws.{service_slots, slots_few}
+use Rattle.timetable.proofs.SlotsLaws.{service_slots, slots_few}
 use Rattle.label_sets.specs.StartsLaws.{labels_read_lem}
 use Rattle.verdict.specs.declared.Verdict.TheVariants.{No}
 use Rattle.verdict.specs.GapLaws.{told_gap, told_none}

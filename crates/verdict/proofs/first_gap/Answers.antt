@@ -4,7 +4,7 @@ use mathlib.Core.Logic.{⊎_elim}
 use native.Mathlib.Omega.{arith}
 use borrow.Author.Tests.{not-true, not-false}
 use lib.ListN.{length}
-use Rattle.timetable.specs.SlotsLaws.{service_slots, read_ride, read_none}
+use Rattle.timetable.proofs.SlotsLaws.{service_slots, read_ride, read_none}
 use Rattle.verdict.specs.GapLaws.{ride_in, searched_none, searched_idle, no_gaps, stops_begin, stops_more, stops_end, stops_fail}
 use Rattle.verdict.proofs.first_gap.Goals as goal
 use Rattle.verdict.proofs.first_gap.Goals.{in-NotInForce, in-InForce+else-loop-v-test, else-search-test}

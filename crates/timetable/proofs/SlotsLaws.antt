@@ -9,7 +9,7 @@ use Rattle.timetable.specs.declared.Given.{Given}
 use Rattle.timetable.specs.declared.SlotRead.{SlotRead}
 use Rattle.timetable.specs.declared.SlotRead.TheVariants.{InForce, NotInForce}
 use Rattle.timetable.specs.Numbers.{run_at, GoodNumbers, GoodRunAt}
-use Rattle.timetable.specs.NumbersLaws.{good_run_at}
+use Rattle.timetable.proofs.NumbersLaws.{good_run_at}
 use Rattle.timetable.specs.Slots.{most_slots, slots_of, slot_run, listed, ride_of, service_of, slot_at, IsRide}
 
 module _ (given : Given) (list : List ℕ) where

@@ -12,7 +12,7 @@ use Rattle.asks.specs.declared.AskRead.TheVariants as ask
 use Rattle.asks.specs.declared.Answer.{Answer}
 use Rattle.asks.specs.declared.Answer.TheVariants.{At, No}
 use Rattle.asks.specs.Asks.{ask_read, asked, Gets, AnswersBy, GoodAsk}
-use Rattle.asks.specs.PermittedLaws.{permitted_ask}
+use Rattle.asks.proofs.PermittedLaws.{permitted_ask}
 
 -- the contract determines the answer
 pub gets_one : (P : ℕ → ℕ → Type 0) (c : Criterion) (x y : Answer) → Gets P c x → Gets P c y → x ≡ y

@@ -13,7 +13,7 @@ use Rattle.label_sets.specs.SeekLaws.{dec_past}
 use Rattle.asks.specs.declared.Found.{Found}
 use Rattle.asks.specs.declared.Found.TheVariants as found
 use Rattle.asks.specs.Found.{FoundIn, Plus, taken}
-use Rattle.asks.specs.FoundLaws.{taken-found, found_same, found_over}
+use Rattle.asks.proofs.FoundLaws.{taken-found, found_same, found_over}
 use Rattle.asks.specs.Candidates.{PastPartner, PartnerAt, OutCandidate, own, met, FromOuts, FromIns, Candidate, PartnersFrom}
 
 module _ {T : Tables} (G : GoodTables T) {u v : ℕ} (ou : u < T.stops) (ov : v < T.stops) where

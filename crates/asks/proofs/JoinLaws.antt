@@ -21,7 +21,7 @@ use Rattle.asks.specs.declared.Found.{Found}
 use Rattle.asks.specs.declared.Found.TheVariants as found
 use Rattle.asks.specs.Found.{FoundIn, taken}
 use Rattle.asks.specs.Candidates.{PartnerAt, FromOuts, Candidate}
-use Rattle.asks.specs.CandidateLaws.{
+use Rattle.asks.proofs.CandidateLaws.{
   partners_start,
   partners_more,
   outs_start,

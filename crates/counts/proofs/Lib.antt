@@ -1,0 +1,10 @@
+pub mod CountLaws
+pub mod SumLaws
+pub mod LabelLaws
+pub mod RowLaws
+pub mod TallyLaws
+pub mod WalkLaws
+pub mod LinkLaws
+pub mod StepLaws
+pub mod SetLaws
+pub mod LogLaws

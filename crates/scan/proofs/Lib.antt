@@ -1,0 +1,7 @@
+pub mod EventLaws
+pub mod ShuffledLaws
+pub mod OrderedLaws
+pub mod ScanLaws
+pub mod ListsLaws
+pub mod EarlyLaws
+pub mod PromiseLaws
