@@ -1,6 +1,6 @@
 -- What an ask line gets, and what is printed for it. The timetable text is s; the reader left the codes' places, the stop count, the run count and
 -- the runs' numbers; b are the bytes of the tables.
-use Rattle.std.specs.Prelude.{ℕ, zero, suc, ◌+◌, ◌<◌, ◌≡◌, List, [], ◌++◌, length, get_or}
+use Rattle.std.specs.Prelude.{ℕ, zero, suc, ◌<◌, ◌≡◌, List, [], ◌++◌, length, get_or}
 use Rattle.loops.specs.Zero.{zeros}
 use Rattle.kinds.specs.Refusals.{refusal}
 use Rattle.kinds.specs.declared.Run.{Run}

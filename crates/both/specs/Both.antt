@@ -1,5 +1,5 @@
 -- Tables and timetable together: how they are judged.
-use Rattle.std.specs.Prelude.{ℕ, ◌+◌, ◌≤◌, ◌≡◌, List, eqb}
+use Rattle.std.specs.Prelude.{ℕ, ◌+◌, ◌≡◌, List, eqb}
 use Rattle.loops.specs.Unless.{unless}
 use Rattle.kinds.specs.Limits.{most_labels}
 use Rattle.kinds.specs.Refusals.{refusal, stops_differ}

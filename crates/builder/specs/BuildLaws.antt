@@ -1,5 +1,5 @@
 -- Laws of the build: from all labels counted to the room that they need, from all labels written to the rule's file; and one result at most.
-use Rattle.std.specs.Prelude.{ℕ, zero, suc, ◌+◌, ◌-◌, min, ◌≤◌, ◌<◌, ◌≡◌, List, ◌++◌, length, get_or, replicate, drop}
+use Rattle.std.specs.Prelude.{ℕ, zero, suc, ◌-◌, min, ◌≤◌, ◌<◌, ◌≡◌, List, ◌++◌, length, get_or, replicate, drop}
 use Rattle.std.proofs.Common.{sym, ap, ap₂, ◌∙◌, arith}
 use Rattle.std.proofs.Math.Decide.{dec_lt}
 use Rattle.std.proofs.Math.ListN.{get_or-append, get_or-eq_default}

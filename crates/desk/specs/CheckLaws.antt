@@ -4,7 +4,7 @@ use Rattle.std.proofs.Common.{ap, ap₂, subst, ◌∙◌, inl, inr, arith}
 use Rattle.std.proofs.Math.Option.{Option}
 use Rattle.std.proofs.Math.Decide.{dec_lt}
 use Rattle.loops.specs.ChainLaws.{either}
-use Rattle.kinds.specs.Refusals.{refusal, label_bad, unsupported, gap, stops_differ}
+use Rattle.kinds.specs.Refusals.{refusal, label_bad, unsupported, stops_differ}
 use Rattle.kinds.specs.declared.Refusal.{Refusal}
 use Rattle.journeys.specs.Service.{Service}
 use Rattle.journeys.specs.Tables.{outs, ins, Tables, LabelAt, of_out, of_in}

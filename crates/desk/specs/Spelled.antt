@@ -1,5 +1,5 @@
 -- What the check's refusals name, spelled out. The timetable text is s; the reader left the codes' places and the runs' numbers; T are the tables.
-use Rattle.std.specs.Prelude.{ℕ, ◌<◌, ◌+◌, ◌≡◌, ◌≢◌, List, [], ◌++◌, Bool, true, false, cond, ltb}
+use Rattle.std.specs.Prelude.{ℕ, ◌<◌, ◌≡◌, ◌≢◌, List, [], ◌++◌, Bool, true, false, cond, ltb}
 use Rattle.std.proofs.Math.Option.{Option, none, some}
 use Rattle.kinds.specs.Refusals.{label_bad, unsupported, gap}
 use Rattle.kinds.specs.declared.Refusal.{Refusal}

@@ -9,7 +9,7 @@ use Rattle.kinds.specs.Refusals.{over_limit}
 use Rattle.timetable.specs.Numbers.{given_of, GoodNumbers}
 use Rattle.reader.specs.declared.Counts.{Counts}
 use Rattle.reader.specs.declared.ReadAnswer.{ReadAnswer}
-use Rattle.reader.specs.declared.ReadAnswer.TheVariants.{Read, No}
+use Rattle.reader.specs.declared.ReadAnswer.TheVariants.{Read}
 use Rattle.reader.specs.Text.{ReadOutcome, bad, read_text, answer_of, runs_of, codes_of, GoodRead}
 use Rattle.reader.specs.TextLaws.{read_good}
 use Rattle.askline.specs.Input.{timetable_end}

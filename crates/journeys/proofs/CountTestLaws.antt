@@ -1,5 +1,5 @@
 -- How many labels the rule has, by tests that compute over tables by the rule.
-use Rattle.std.specs.Prelude.{◌≡◌, refl, ◌↔◌, not, cond, ℕ, ◌+◌, ◌-◌, ◌≤◌, ◌<◌, T, leb, ltb, eqb}
+use Rattle.std.specs.Prelude.{◌≡◌, refl, ◌↔◌, not, cond, ℕ, ◌+◌, ◌-◌, ◌≤◌, ◌<◌, T, leb, ltb}
 use Rattle.std.proofs.Math.Option.{Option}
 use native.Mathlib.Omega.{arith}
 use Rattle.std.proofs.Math.Decide.{dec_lt}

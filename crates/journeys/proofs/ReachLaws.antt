@@ -1,5 +1,5 @@
 -- Deciding by search (L4): journeys within two minutes, undominated pairs, the lowest stop between, a run with a pair.
-use Rattle.std.specs.Prelude.{◌≡◌, refl, ◌⊎◌, Bool, true, false, ℕ, zero, suc, pred, ◌+◌, ◌≤◌, ◌<◌}
+use Rattle.std.specs.Prelude.{◌≡◌, refl, ◌⊎◌, true, ℕ, zero, suc, pred, ◌+◌, ◌≤◌, ◌<◌}
 use Rattle.std.proofs.Common.{sym, subst, inl, inr, le_refl, arith}
 use Rattle.std.proofs.Math.Decide.{ℕ_discrete, dec_le, dec_lt}
 use Rattle.loops.specs.DecideLaws.{least_below, dec_not}

@@ -1,5 +1,5 @@
 -- How many labels tables have, by tests that compute. What each says is in CountTestLaws.
-use Rattle.std.specs.Prelude.{Bool, not, cond, ℕ, zero, suc, ◌+◌, ◌-◌, leb, ltb, eqb}
+use Rattle.std.specs.Prelude.{Bool, not, cond, ℕ, zero, suc, ◌+◌, leb, ltb, eqb}
 use Rattle.journeys.specs.Tables.{Side, outs, ins, Tables}
 use Rattle.journeys.specs.Count.{Timed}
 use Rattle.journeys.specs.Tests.{and_then, or_else, allb}

@@ -1,5 +1,5 @@
 -- Parts of journeys and of tables that the laws speak of; no contract does.
-use Rattle.std.specs.Prelude.{ℕ, ◌≤◌, ◌+◌, ◌-◌, ◌<◌, ◌≡◌, ◌⊎◌, ◌≢◌, true, List, ◌++◌}
+use Rattle.std.specs.Prelude.{ℕ, ◌≤◌, ◌+◌, ◌<◌, ◌≡◌, ◌⊎◌, ◌≢◌, true, List, ◌++◌}
 use Rattle.std.proofs.Math.Option.{Option}
 use Rattle.journeys.specs.Service.{Service, RideAt}
 use Rattle.journeys.specs.Journey.{Journey, one, more, Within, Undominated}

@@ -1,7 +1,7 @@
 -- Laws of choosing: the turns of the search for the lowest hub, and that what is opened at the chosen stop is the rides of the answer.
 use Rattle.std.specs.Prelude.{ℕ, ◌+◌, ◌*◌, ◌≤◌, ◌<◌, ◌≡◌, refl, List, ◌++◌, Bool, true, false, get_or}
 use Rattle.std.proofs.Common.{sym, ap, subst, subst₂, ◌∙◌, arith, le_refl}
-use Rattle.std.proofs.Math.Option.{Option, none, some}
+use Rattle.std.proofs.Math.Option.{Option, some}
 use Rattle.std.proofs.Math.Decide.{dec_lt}
 use Rattle.loops.specs.First.{FirstAt}
 use Rattle.loops.specs.FirstLaws.{passed_none, passed_more, first_extend}

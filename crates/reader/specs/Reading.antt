@@ -1,5 +1,5 @@
 -- The loop over the lines: what is still to be read gives the whole outcome.
-use Rattle.std.specs.Prelude.{ℕ, ◌+◌, ◌-◌, ◌≤◌, ◌≡◌, List, length}
+use Rattle.std.specs.Prelude.{ℕ, ◌+◌, ◌≤◌, ◌≡◌, List, length}
 use Rattle.loops.specs.Zero.{zeros}
 use Rattle.kinds.specs.Limits.{most_runs, most_text, runs_room, codes_room}
 use Rattle.lookup.specs.Index.{CodesIndexed}

@@ -1,5 +1,5 @@
 -- What holds of every text that was read whole: its numbers are good numbers, its codes are codes and no two are one, and the rest of each room is zero.
-use Prim.Native.Nat.{ℕ, zero, suc, ◌+◌, ◌*◌, ◌-◌, ◌≤◌, ◌<◌}
+use Prim.Native.Nat.{ℕ, zero, suc, ◌+◌, ◌*◌, ◌≤◌, ◌<◌}
 use Rattle.std.proofs.Math.Path.{◌≡◌}
 use Rattle.std.specs.Prelude.{refl, List, [], ◌∷◌, true, false, length, replicate, ltb, leb}
 use Rattle.std.proofs.Common.{subst, ◌∙◌, arith, add-zero, lt-ltb, le-ltb, ltb-false, leb-false}

@@ -1,5 +1,5 @@
 -- What the working room of an ask with rides holds beside the starts of the sets and the rides by departure behind them.
-use Rattle.std.specs.Prelude.{ℕ, ◌+◌, ◌*◌, ◌≤◌, ◌<◌, ◌≡◌, List, length, get_or}
+use Rattle.std.specs.Prelude.{ℕ, ◌+◌, ◌*◌, ◌<◌, ◌≡◌, List, length, get_or}
 use Rattle.timetable.specs.declared.Given.{Given}
 use Rattle.timetable.specs.Slots.{slots_of}
 use Rattle.departures.specs.Departures.{buckets, SameFrom}

@@ -1,6 +1,6 @@
 -- One file: good tables with the same labels are the same bytes.
 use Prim.Native.Nat.{ℕ, ◌+◌, ◌*◌, ◌-◌, ◌/◌, ◌%◌, ◌≤◌, ◌<◌}
-use Rattle.std.specs.Prelude.{◌≡◌, refl, List, ◌⊎◌, ◌↔◌, length, get_or}
+use Rattle.std.specs.Prelude.{◌≡◌, refl, List, ◌⊎◌, length, get_or}
 use Rattle.std.proofs.Common.{ap, sym, subst, subst₂, ◌∙◌, inl, inr, arith, ext_get_or, eq-eqb, ne_eqb}
 use Rattle.std.proofs.Math.Option.{Option}
 use Rattle.std.proofs.Math.Decide.{ℕ_discrete, dec_lt}
@@ -8,7 +8,7 @@ use Rattle.loops.specs.RowsLaws.{row_agrees, row_longer}
 use Rattle.loops.specs.Rows.{Rises, Among}
 use Rattle.kinds.specs.Limits.{no_pivot}
 use Rattle.kinds.specs.declared.Label.{Label}
-use Rattle.journeys.specs.Tables.{Side, Tables, Entry}
+use Rattle.journeys.specs.Tables.{Side, Entry}
 use Rattle.tables.specs.declared.TablesRead.TheVariants.{Good}
 use Rattle.tables.specs.Format.{header_bytes, entry_bytes, label_bytes, no_pivot_byte}
 use Rattle.tables.specs.File.{two_at, stops_of, set_of, count_of, start_of, labels_of, place_of, pivot_read, label_at, pivot_of, tables_of, AreBytes}

@@ -1,5 +1,5 @@
 -- Tables are refused by 9, 10 or 11; and 11 names a label that there is, that is not good, and before which every label is good.
-use Rattle.std.specs.Prelude.{ℕ, ◌+◌, ◌*◌, ◌<◌, ◌≡◌, refl, List, Bool, true, false, cond, length, get_or, leb, eqb}
+use Rattle.std.specs.Prelude.{ℕ, ◌+◌, ◌*◌, ◌<◌, ◌≡◌, refl, List, length, get_or, leb, eqb}
 use Rattle.std.proofs.Common.{ap, sym, subst, ◌∙◌, arith, leb-true, eqb-true}
 use Rattle.std.proofs.Math.Option.{Option, none, some}
 use Rattle.std.proofs.Math.Decide.{dec_lt}
@@ -16,7 +16,7 @@ use Rattle.tables.specs.Format.{format_mark, header_bytes, entry_bytes}
 use Rattle.tables.specs.File.{stops_of, owner_of, count_of, start_of, labels_of, place_of}
 use Rattle.tables.specs.Judged.{good_label, bad_label, bad_in_set, first_bad, unless_bad, judged_contents, judged_tables}
 use Rattle.tables.specs.FileLaws.{start_rises, start_more}
-use Rattle.tables.specs.Good.{Room, GoodEntry}
+use Rattle.tables.specs.Good.{Room}
 use Rattle.tables.specs.Refused.{BadFirst, TablesRefusal, IfRefused}
 use Rattle.tables.specs.GoodLaws.{entry_good, good_entry}
 

@@ -10,7 +10,7 @@ use Rattle.loops.specs.ChainLaws.{past}
 use Rattle.kinds.specs.Limits.{no_pivot}
 use Rattle.kinds.specs.Kinds.{GoodPivot}
 use Rattle.kinds.specs.declared.Label.{Label}
-use Rattle.journeys.specs.Tables.{Side, outs, ins, Tables, Entry, GoodTables}
+use Rattle.journeys.specs.Tables.{Side, outs, ins, Entry, GoodTables}
 use Rattle.tables.specs.File.{stops_of, set_of, owner_of, count_of, start_of, end_of, labels_of, label_at, pivot_of, tables_of}
 use Rattle.tables.specs.Read.{ReadsAs}
 use Rattle.tables.specs.FileLaws.{set_only, set_within}

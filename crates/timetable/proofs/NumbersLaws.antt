@@ -1,12 +1,12 @@
 -- What judged numbers promise, for those who read them.
-use Rattle.std.specs.Prelude.{ℕ, ◌*◌, ◌≤◌, ◌<◌, ◌≡◌, refl, List, ◌⊎◌, length, leb}
+use Rattle.std.specs.Prelude.{ℕ, ◌*◌, ◌≤◌, ◌<◌, ◌≡◌, refl, List, length, leb}
 use Rattle.std.proofs.Common.{ap, inl, inr, arith, leb-true, le-leb}
 use Rattle.std.proofs.Math.Option.{Option, none, some}
 use Rattle.loops.specs.ChainLaws.{stays, either}
 use Rattle.loops.specs.FirstOf.{first_of}
 use Rattle.loops.specs.FirstOfLaws.{first_of_clear, first_of_all, first_of_found}
 use Rattle.kinds.specs.Limits.{run_numbers}
-use Rattle.kinds.specs.Refusals.{over_limit, room_short, refusal}
+use Rattle.kinds.specs.Refusals.{over_limit, refusal}
 use Rattle.kinds.specs.Kinds.{is_stop_count, is_run_count, RunRefusal}
 use Rattle.kinds.specs.KindsLaws.{stop_count, count_is, run_count, run_count_is, run_good, run_is, run_refusal}
 use Rattle.kinds.specs.declared.Refusal.{Refusal}

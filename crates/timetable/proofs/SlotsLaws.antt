@@ -6,7 +6,6 @@ use native.Mathlib.Omega.{arith}
 use Rattle.journeys.specs.declared.Ride.{Ride}
 use Rattle.journeys.specs.Service.{Service, RideAt, GoodService}
 use Rattle.timetable.specs.declared.Given.{Given}
-use Rattle.timetable.specs.declared.SlotRead.{SlotRead}
 use Rattle.timetable.specs.declared.SlotRead.TheVariants.{InForce, NotInForce}
 use Rattle.timetable.specs.Numbers.{run_at, GoodNumbers, GoodRunAt}
 use Rattle.timetable.proofs.NumbersLaws.{good_run_at}

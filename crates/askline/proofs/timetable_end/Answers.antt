@@ -1,4 +1,3 @@
-use Prim.Native.Nat.{◌-◌}
 use mathlib.Core.Path.{sym, ◌∙◌}
 use Rattle.askline.specs.InputLaws.{ending_none, ending_out, ending_here, ending_more}
 use Rattle.askline.proofs.timetable_end.Goals as goal

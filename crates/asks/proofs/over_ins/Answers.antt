@@ -1,4 +1,3 @@
-use Prim.Native.Nat.{◌-◌}
 use native.Mathlib.Omega.{arith}
 use Rattle.label_sets.specs.SetsLaws.{set_bounds}
 use Rattle.asks.proofs.JoinLaws.{ins_again, ins_stop, ins_done}

@@ -1,5 +1,4 @@
 use borrow.Author.Rules.{rules}
-use Prim.Native.Nat.{◌-◌}
 use native.Mathlib.Omega.{arith}
 use Rattle.label_sets.specs.SetsLaws.{set_bounds}
 use Rattle.asks.proofs.JoinLaws.{outs_begin, out_turn_at, outs_again, outs_done}

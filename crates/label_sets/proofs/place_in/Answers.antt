@@ -1,5 +1,4 @@
 use borrow.Author.Rules.{rules}
-use Prim.Native.Nat.{◌-◌}
 use Rattle.loops.specs.HalvedLaws.{halved_begin, halved_low, halved_high, halved_end}
 use Rattle.label_sets.specs.SeekLaws.{past_true, past_false}
 use Rattle.label_sets.specs.SetsLaws.{set_rises}

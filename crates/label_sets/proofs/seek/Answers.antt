@@ -1,5 +1,4 @@
 use borrow.Author.Rules.{rules}
-use Prim.Native.Nat.{◌-◌}
 use Rattle.loops.specs.FirstLaws.{passed_none, passed_more, first_here, first_end}
 use Rattle.label_sets.specs.SeekLaws.{past_true, past_false}
 use Rattle.label_sets.proofs.seek.Goals as goal

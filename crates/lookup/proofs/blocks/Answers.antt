@@ -1,5 +1,4 @@
 use borrow.Author.Rules.{rules}
-use Prim.Native.Nat.{◌-◌}
 use Rattle.lookup.specs.MarkLaws.{mixing_none, mixing_more, mixing_end}
 use Rattle.lookup.proofs.blocks.Goals as goal
 

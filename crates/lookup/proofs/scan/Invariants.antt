@@ -1,4 +1,3 @@
-use Prim.Native.Nat.{◌-◌}
 use Rattle.lookup.specs.Scanning.{Scanning}
 use Rattle.lookup.proofs.scan.Given as goal
 

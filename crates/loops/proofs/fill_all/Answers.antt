@@ -1,5 +1,4 @@
 use borrow.Author.Rules.{rules}
-use Prim.Native.Nat.{◌-◌}
 use Rattle.loops.specs.MadeLaws.{made_none, made_more, made_all}
 use Rattle.loops.proofs.fill_all.Goals as goal
 

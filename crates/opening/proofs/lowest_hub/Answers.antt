@@ -1,4 +1,3 @@
-use Prim.Native.Nat.{◌-◌}
 use Rattle.opening.specs.ChooseLaws.{hubs_begin, hubs_again, hub-found, hubs_done, out_within, in_within}
 use Rattle.opening.proofs.lowest_hub.Goals as goal
 

@@ -1,4 +1,4 @@
-use Rattle.std.proofs.Common.{ap, arith, length, length-set}
+use Rattle.std.proofs.Common.{ap, arith, length}
 use Rattle.printed.specs.DecimalLaws.{decimal_small, decimal_tenth}
 use Rattle.printed.specs.WroteLaws.{wrote_digit, wrote_tenth}
 use Rattle.printed.proofs.+put_decimal.Goals as goal

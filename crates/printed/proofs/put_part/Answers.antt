@@ -1,5 +1,4 @@
 use borrow.Author.Rules.{rules}
-use Prim.Native.Nat.{◌-◌}
 use native.Mathlib.Omega.{arith}
 use Rattle.printed.specs.WroteLaws.{copying_none, copying_more, copying_length, copying_end, part_length, part_at}
 use Rattle.printed.proofs.put_part.Goals as goal

@@ -1,4 +1,3 @@
-use Prim.Native.Nat.{◌-◌}
 use borrow.Author.Rules.{rules}
 use Rattle.report.specs.TextLinesLaws.{seeking_none, seeking_more, seeking_short, seeking_end}
 use Rattle.report.proofs.line_from.Goals as goal

@@ -1,7 +1,7 @@
 use Prim.Native.Nat.{ℕ, ◌≤◌, ◌-◌}
 use mathlib.Core.Path.{◌≡◌}
 use mathlib.Core.List.{List}
-use lib.ListN.{length, set}
+use lib.ListN.{length}
 use Rattle.kinds.specs.Limits.{most_labels}
 use Rattle.loops.specs.Filled.{filled}
 use Rattle.tables.specs.File.{start_of}

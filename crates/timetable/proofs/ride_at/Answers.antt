@@ -1,7 +1,7 @@
 use mathlib.Core.Path.{ap, ◌∙◌}
 use native.Mathlib.Omega.{arith}
 use Rattle.timetable.specs.Numbers.{run_at}
-use Rattle.timetable.specs.Slots.{slot_run, ride_of}
+use Rattle.timetable.specs.Slots.{ride_of}
 use Rattle.timetable.proofs.SlotsLaws.{slots_few, slot_run_at, slot_is}
 use Rattle.timetable.specs.declared.SlotRead.TheVariants.{InForce}
 use Rattle.timetable.proofs.ride_at.Goals as goal

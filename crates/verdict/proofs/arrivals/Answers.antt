@@ -1,4 +1,3 @@
-use Prim.Native.Nat.{◌-◌}
 use native.Mathlib.Omega.{arith}
 use Rattle.verdict.specs.MinutesLaws.{walk_label, walk_hub, ins_begin, ins_more, ins_end}
 use Rattle.verdict.proofs.arrivals.Goals as goal

@@ -1,5 +1,4 @@
 use borrow.Author.Rules.{rules}
-use Prim.Native.Nat.{◌-◌}
 use native.Mathlib.Omega.{arith}
 use Rattle.verdict.specs.MinutesLaws.{kept_set, kept_then, walk_label, walk_hub, outs_begin, outs_more, outs_end}
 use Rattle.verdict.proofs.reach.Goals as goal

@@ -1,5 +1,4 @@
 use borrow.Author.Rules.{rules}
-use Prim.Native.Nat.{◌-◌}
 use mathlib.Core.Path.{◌≡◌}
 use native.Mathlib.Omega.{arith}
 use Rattle.words.specs.DigitsLaws.{digits_none, digits_more, digits_low, digits_high, digits_good, digits_small}

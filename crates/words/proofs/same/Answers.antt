@@ -1,7 +1,5 @@
 use borrow.Author.Rules.{rules}
-use Prim.Native.Nat.{◌-◌}
 use mathlib.Core.Path.{◌≡◌, sym}
-use mathlib.Core.Bool.{true}
 use native.Mathlib.Omega.{arith}
 use Rattle.loops.specs.EveryLaws.{same_none, same_more, same_fails}
 use Rattle.words.proofs.same.Goals as goal

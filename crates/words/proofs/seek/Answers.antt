@@ -1,5 +1,4 @@
 use borrow.Author.Rules.{rules}
-use Prim.Native.Nat.{◌-◌}
 use mathlib.Core.Path.{refl, sym, ◌∙◌}
 use Rattle.words.specs.WordsLaws.{seek_here, seek_more, seek_end}
 use Rattle.words.proofs.seek.Goals as goal
