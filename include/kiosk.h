@@ -1,4 +1,4 @@
-/* The journey kiosk's library. Link target/staticlib/libkiosk.a (made by `rt staticlib kiosk`).
+/* The journey kiosk's library. Link target/staticlib/libkiosk.a (made by `tests/library`, of the crate kiosk_c).
  *
  * Every call ends, for any bytes and any numbers, and never reads or writes outside what it was lent. `answer` is four
  * numbers: {0, ..} on success, {number, place, stop, 0} on a refusal (stop only for refusal 20, else 0). On a refusal every

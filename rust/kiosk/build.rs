@@ -15,7 +15,7 @@ fn main() {
     let archive = dir.join("libkiosk.a");
     println!("cargo:rerun-if-changed={}", archive.display());
     if !archive.exists() {
-        panic!("there is no target/staticlib/libkiosk.a: build the static library kiosk first");
+        panic!("there is no target/staticlib/libkiosk.a: tests/library makes it");
     }
     println!("cargo:rustc-link-search=native={}", dir.display());
     println!("cargo:rustc-link-lib=static=kiosk");

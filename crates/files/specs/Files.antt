@@ -1,11 +1,15 @@
 -- What is known of a file that was read; the names under which a file is written before it gets its own; when it is whole.
-use Rattle.std.specs.Prelude.{ℕ, ◌/◌, ◌%◌, ◌≤◌, ◌<◌, List, [], ◌∷◌, ◌++◌, Bool, false, cond, eqb, leb}
+use Rattle.std.specs.Prelude.{ℕ, ◌/◌, ◌%◌, ◌≤◌, ◌<◌, ◌≡◌, List, [], ◌∷◌, ◌++◌, length, take, Bool, false, cond, eqb, leb}
 use Rattle.printed.specs.Printed.{digit}
 use Rattle.words.specs.Bytes.{bytes}
 use Rattle.files.specs.declared.FileRead.{FileRead}
 use Rattle.files.specs.declared.FileRead.TheVariants.{Read, No}
 use Rattle.files.specs.declared.Part.{Part}
 use Rattle.files.specs.declared.Part.TheVariants as part
+
+-- the first n are there
+abbrev pub IsPrefixLen : ℕ → List ℕ → Type 0
+IsPrefixLen n xs = (n ≤ length xs) × (n ≡ length (take n xs))
 
 -- so many bytes of the buffer, which has so many, are the file's
 abbrev pub ReadWithin : ℕ → FileRead → Type 0

@@ -1,9 +1,8 @@
 -- Laws of the names of files that are written.
 use Rattle.std.specs.Prelude.{ℕ, ◌+◌, ◌≤◌, ◌≡◌, List, ◌++◌, Bool, true, false, cond, length, eqb, leb}
 use Rattle.std.proofs.Common.{sym, arith, length-append, length-take-le, leb-true}
-use Rattle.io.specs.Counts.{IsPrefixLen}
 use Rattle.words.specs.Bytes.{bytes}
-use Rattle.files.specs.Files.{two_digits, part_name, part_more, name_most, is_name}
+use Rattle.files.specs.Files.{IsPrefixLen, two_digits, part_name, part_more, name_most, is_name}
 
 pub name_short : (n : ℕ) → is_name n ≡ true → n ≤ name_most
 name_short n e = go (eqb n 0) e

@@ -1,16 +1,18 @@
+#![tactic(auto)]
+
 // Files that a program's arguments name: read whole into a lent buffer, or written under another name first, so that a broken write never leaves half
 // a file. Where a file cannot be used standard output says so, and standard error says why, in the system's words. No contract can say what a file
 // holds or what is done to it. What is said: nothing is read or written outside the buffers, under which name a file is written first, when it counts as
 // whole, and that only a whole file gets its own name.
-#![tactic(auto)]
-
-ghost use Rattle.std.specs.Prelude.{◌+◌, ◌≤◌, ◌<◌, ◌≡◌, false, eqb, length};
-ghost use Rattle.io.specs.Counts.{IsPrefixLen};
+ghost use Rattle.std.specs.Prelude.{◌+◌, ◌≤◌, ◌<◌, ◌≡◌, false, IfOk, eqb, length};
 ghost use Rattle.printed.specs.Wrote.{Wrote};
-ghost use Rattle.files.specs.Files.{ReadWithin, PartWithin, two_digits, part_name, part_more, most_parts, name_most, is_name, is_whole};
+ghost use Rattle.files.specs.Files.{IsPrefixLen, ReadWithin, PartWithin, two_digits, part_name, part_more, most_parts, name_most, is_name, is_whole};
 
-use libc::STDOUT_FILENO;
 use printed::put_part;
+use std::env::{Env, FillError};
+use std::fs::{File, OpenOptions};
+use std::io::{Error, ErrorKind, Read, Write};
+use std::{fs, io, str};
 
 // What came of reading: so many bytes, at most as many as the buffer has; or the file cannot be read.
 #[derive(Clone, Copy)]
@@ -19,10 +21,10 @@ pub enum FileRead {
     No,
 }
 
-// A file to be written under its first name: its number, and the descriptor. Or all names are taken, or it cannot be made.
-#[derive(Clone, Copy)]
+// A file to be written under its first name: its number, and the open file. Or all names are taken, or it cannot be made.
+#[derive(Drop)]
 enum Part {
-    Made(u8, i32),
+    Made(u8, File),
     Taken,
     No,
 }
@@ -30,8 +32,11 @@ enum Part {
 // So many first names a file can have.
 const PARTS: u8 = 100;
 
+// As long as the system takes a file's name, with a zero byte behind it.
+const PATH_ROOM: usize = 4096;
+
 // The longest name that a file to be written may have: ".part", two digits and a zero byte follow it.
-const NAME_MOST: usize = libc::PATH_MAX - 8;
+const NAME_MOST: usize = PATH_ROOM - 8;
 
 pub fn name_most() -> usize
     ensures value { result ≡ NAME_MOST }
@@ -40,86 +45,144 @@ pub fn name_most() -> usize
     NAME_MOST
 }
 
-// A line of three pieces.
-fn say(first: &[u8], name: &[u8], last: &[u8]) {
-    io::write_all(STDOUT_FILENO, first);
-    io::write_all(STDOUT_FILENO, name);
-    io::write_all(STDOUT_FILENO, last);
-    io::write_all(STDOUT_FILENO, b"\n");
+// A line of three pieces. Where standard output takes no more, there is nobody to tell.
+fn say(rt: &HostRuntime, first: &[u8], name: &[u8], last: &[u8]) {
+    let _ = rt.write_all(first);
+    let _ = rt.write_all(name);
+    let _ = rt.write_all(last);
+    let _ = rt.write_all(b"\n");
 }
 
 // The first n bytes of what was made ready, on standard output.
-pub fn tell(out: &[u8], n: usize)
+pub fn tell(rt: &HostRuntime, out: &[u8], n: usize)
     requires { n ≤ length out.now }
 {
-    io::write_all(STDOUT_FILENO, &out[..n]);
+    let _ = rt.write_all(&out[..n]);
+}
+
+// ---- Why a file cannot be used.
+
+// Where the system's words end: the library's text of an error has the error's number behind them.
+fn words_end(text: &[u8], n: usize) -> usize
+    requires { n ≤ length text.now }
+    ensures { result ≤ n }
+{
+    for k in 0..n {
+        if words::begins(text, k, n, b" (os error ") {
+            return k;
+        }
+    }
+    n
+}
+
+// The words for the error, as far as there is room.
+fn put_why(why: &Error, text: &mut [u8]) -> usize
+    ensures { result ≤ length text.new }
+{
+    let room = text.len();
+    let mut rest: &mut [u8] = &mut text[..];
+    let _ = write!(rest, "{why}");
+    let n = room - rest.len().min(room);
+    words_end(text, n)
+}
+
+// A line on standard error: what failed, a colon and why.
+fn fail(rt: &HostRuntime, what: &[u8], why: &Error) {
+    let mut text = [0u8; 64];
+    let n = put_why(why, &mut text);
+    let to = rt.stderr();
+    let _ = Print::write_all(&to, what);
+    let _ = Print::write_all(&to, b": ");
+    let _ = Print::write_all(&to, &text[..n]);
+    let _ = Print::write_all(&to, b"\n");
+}
+
+// A file's name as the library takes it.
+fn as_name(path: &[u8]) -> io::Result<&str> {
+    match str::from_utf8(path) {
+        Ok(name) => Ok(name),
+        Err(_) => Err(Error::new(ErrorKind::InvalidInput, "the name is not UTF-8")),
+    }
 }
 
 // ---- Reading.
 
-// Whether nothing more can be read because the file has ended, and not because a read fails.
-fn has_ended(fd: i32) -> bool {
+// Nothing more can be read because the file has ended; or else why a read fails.
+fn has_ended(file: &mut File) -> io::Result<()> {
     let mut more = [0u8; 1];
-    libc::read(fd, &mut more) == 0
+    if file.read(&mut more)? == 0 {
+        return Ok(());
+    }
+    Err(Error::from(ErrorKind::Interrupted))
 }
 
 // Reads to the end of the file, or until the buffer is full.
-fn read_all(fd: i32, buf: &mut [u8]) -> FileRead
-    ensures { ReadWithin (length buf.new) result }
+fn read_all(file: &mut File, buf: &mut [u8]) -> io::Result<usize>
+    ensures { IfOk result (λ n. n ≤ length buf.new) }
 {
-    let n = io::read_full(fd, buf);
-    if n == buf.len() {
-        return FileRead::Read(n);
+    let n = handing::read_full(file, buf);
+    if n < buf.len() {
+        has_ended(file)?;
     }
-    if has_ended(fd) {
-        return FileRead::Read(n);
-    }
-    FileRead::No
+    Ok(n)
+}
+
+// Opens the file for reading.
+fn open_read(rt: &HostRuntime, path: &[u8]) -> io::Result<File> {
+    File::open(rt, as_name(path)?)
 }
 
 // The file of this name, into the buffer. A file that fills it may be longer.
-fn read(path: &[u8], buf: &mut [u8]) -> FileRead
+fn read(rt: &HostRuntime, path: &[u8], buf: &mut [u8]) -> FileRead
     ensures { ReadWithin (length buf.new) result }
 {
     if path.len() == 0 {
-        say(b"cannot open ", path, b": the name is empty or too long");
+        say(
+            rt,
+            b"cannot open ",
+            path,
+            b": the name is empty or too long",
+        );
         return FileRead::No;
     }
-    let fd = os::open_read(path);
-    if fd < 0 {
-        os::fail(path);
-        say(b"cannot open ", path, b"");
-        return FileRead::No;
+    let mut file = match open_read(rt, path) {
+        Ok(file) => file,
+        Err(why) => {
+            fail(rt, path, &why);
+            say(rt, b"cannot open ", path, b"");
+            return FileRead::No;
+        }
+    };
+    match read_all(&mut file, buf) {
+        Ok(n) => FileRead::Read(n),
+        Err(why) => {
+            fail(rt, path, &why);
+            say(rt, b"cannot read ", path, b"");
+            FileRead::No
+        }
     }
-    let read = read_all(fd, buf);
-    if let FileRead::No = read {
-        os::fail(path);
-        say(b"cannot read ", path, b"");
-    }
-    libc::close(fd);
-    read
 }
 
 // Says that the file is longer than it may be.
-fn say_more(name: &[u8], most: u32)
+fn say_more(rt: &HostRuntime, name: &[u8], most: u32)
     requires { length name.now ≤ 4096 }
 {
-    let mut out = [0u8; libc::PATH_MAX + report::LINE_ROOM];
+    let mut out = [0u8; PATH_ROOM + report::LINE_ROOM];
     let n = report::more_line(&mut out, 0, name, most);
-    tell(&out, n);
+    tell(rt, &out, n);
 }
 
 // The file that argument i names, into the buffer. One that has more bytes than it may have is told of; the buffer has room for one byte more, which
 // tells it from a file that fits.
-pub fn read_named(i: usize, most: u32, buf: &mut [u8]) -> FileRead
+pub fn read_named(rt: &HostRuntime, i: usize, most: u32, buf: &mut [u8]) -> FileRead
     ensures { ReadWithin (length buf.new) result }
 {
-    let mut path = io::buffer();
-    let n = os::arg(i, &mut path);
-    let read = read(&path[..n], buf);
+    let mut path = name_room();
+    let n = arg(rt, i, &mut path);
+    let read = read(rt, &path[..n], buf);
     if let FileRead::Read(m) = read {
         if (most as usize) < m {
-            say_more(&path[..n], most);
+            say_more(rt, &path[..n], most);
         }
     }
     read
@@ -150,30 +213,34 @@ fn part_name(path: &[u8], k: u8, name: &mut [u8]) -> usize
     put_two(name, b, k)
 }
 
-// Makes the file of this first name, and answers a descriptor, or a negative number, as where there is such a file.
-fn make_one(path: &[u8], k: u8) -> i32
+// Makes the file of this first name, where there is none.
+fn make_one(rt: &HostRuntime, path: &[u8], k: u8) -> io::Result<File>
     requires path_len_bound { length path.now ≤ name_most }
     requires k_lt_most_parts { k < most_parts }
 {
-    let mut name = [0u8; libc::PATH_MAX];
+    let mut name = [0u8; PATH_ROOM];
     let n = part_name(path, k, &mut name);
-    os::create(&name[..n])
+    OpenOptions::new()
+        .write(true)
+        .create_new(true)
+        .open(rt, as_name(&name[..n])?)
 }
 
 // Makes a file under the first of its first names that is free. Another build may be writing the others, or a build that was broken off left them.
-fn make_part(path: &[u8]) -> Part
+fn make_part(rt: &HostRuntime, path: &[u8]) -> Part
     requires { length path.now ≤ name_most }
     ensures { PartWithin result }
 {
     let mut k = 0;
     while k < PARTS {
-        let fd = make_one(path, k);
-        if 0 <= fd {
-            return Part::Made(k, fd);
-        }
-        if os::errno() != libc::EEXIST {
-            os::fail(path);
-            return Part::No;
+        match make_one(rt, path, k) {
+            Ok(file) => return Part::Made(k, file),
+            Err(why) => {
+                if why.kind() != ErrorKind::AlreadyExists {
+                    fail(rt, path, &why);
+                    return Part::No;
+                }
+            }
         }
         k += 1;
     }
@@ -193,42 +260,59 @@ fn is_whole(written: bool, kept: bool, closed: bool) -> bool
     closed
 }
 
-// Writes all of the bytes, sees that they are kept, and closes the file. Whether it is whole.
-fn write_all(fd: i32, bytes: &[u8]) -> bool {
-    let written = io::write_all(fd, bytes);
-    let kept = libc::fsync(fd);
-    let closed = libc::close(fd);
-    is_whole(written, kept == 0, closed == 0)
+// Writes all of the bytes, sees that they are kept, and closes the file. Whether it is whole; the library tells nothing of a close that fails. Where it
+// is not, standard error says why, by the last call that failed.
+fn write_all(rt: &HostRuntime, path: &[u8], mut file: File, bytes: &[u8]) -> bool {
+    let written = file.write_all(bytes);
+    let kept = file.sync_all();
+    drop(file);
+    if let Err(why) = kept {
+        fail(rt, path, &why);
+    } else if let Err(why) = written {
+        fail(rt, path, &why);
+    }
+    is_whole(written.is_ok(), kept.is_ok(), true)
+}
+
+// Removes the file of this first name. Where that fails it stays, and the next build passes over it.
+fn remove(rt: &HostRuntime, part: &[u8]) {
+    if let Ok(name) = as_name(part) {
+        let _ = fs::remove_file(rt, name);
+    }
+}
+
+// The file of the first name gets its own.
+fn rename(rt: &HostRuntime, part: &[u8], path: &[u8]) -> io::Result<()> {
+    fs::rename(rt, as_name(part)?, as_name(path)?)
 }
 
 // Only a whole file gets its own name; any other is removed.
-fn name_whole(part: &[u8], path: &[u8], whole: bool) -> bool
+fn name_whole(rt: &HostRuntime, part: &[u8], path: &[u8], whole: bool) -> bool
     ensures { whole ≡ false → result ≡ false }
 {
     if !whole {
-        os::fail(path);
-        os::unlink(part);
-        say(b"cannot write ", path, b"");
+        remove(rt, part);
+        say(rt, b"cannot write ", path, b"");
         return false;
     }
-    if os::rename(part, path) < 0 {
-        os::fail(path);
-        os::unlink(part);
-        say(b"cannot make ", path, b"");
+    if let Err(why) = rename(rt, part, path) {
+        fail(rt, path, &why);
+        remove(rt, part);
+        say(rt, b"cannot make ", path, b"");
         return false;
     }
     true
 }
 
 // The bytes, under first name k; and then under the file's own.
-fn write_part(path: &[u8], k: u8, fd: i32, bytes: &[u8]) -> bool
+fn write_part(rt: &HostRuntime, path: &[u8], k: u8, file: File, bytes: &[u8]) -> bool
     requires path_len_bound { length path.now ≤ name_most }
     requires k_lt_most_parts { k < most_parts }
 {
-    let mut name = [0u8; libc::PATH_MAX];
+    let mut name = [0u8; PATH_ROOM];
     let n = part_name(path, k, &mut name);
-    let whole = write_all(fd, bytes);
-    name_whole(&name[..n], path, whole)
+    let whole = write_all(rt, path, file, bytes);
+    name_whole(rt, &name[..n], path, whole)
 }
 
 // Whether a file can be written under this name: it has bytes, and with those of a first name it is no longer than a name may be.
@@ -242,18 +326,24 @@ fn is_name(path: &[u8]) -> bool
 }
 
 // The bytes, as the file of this name. They are written under another name, which no other build has.
-pub fn write(path: &[u8], bytes: &[u8]) -> bool
+pub fn write(rt: &HostRuntime, path: &[u8], bytes: &[u8]) -> bool
     ensures { is_name (length path.now) ≡ false → result ≡ false }
 {
     if !is_name(path) {
-        say(b"cannot make ", path, b": the name is empty or too long");
+        say(
+            rt,
+            b"cannot make ",
+            path,
+            b": the name is empty or too long",
+        );
         return false;
     }
-    let part = make_part(path);
+    let part = make_part(rt, path);
     match part {
-        Part::Made(k, fd) => write_part(path, k, fd, bytes),
+        Part::Made(k, file) => write_part(rt, path, k, file, bytes),
         Part::Taken => {
             say(
+                rt,
                 b"cannot make ",
                 path,
                 b": files of this name with .part00 to .part99 behind it are left over; remove them",
@@ -261,7 +351,7 @@ pub fn write(path: &[u8], bytes: &[u8]) -> bool
             false
         }
         Part::No => {
-            say(b"cannot make ", path, b"");
+            say(rt, b"cannot make ", path, b"");
             false
         }
     }
@@ -269,13 +359,37 @@ pub fn write(path: &[u8], bytes: &[u8]) -> bool
 
 // ---- The program's arguments.
 
+// Room for a file's name.
+pub fn name_room() -> [u8; PATH_ROOM]
+    ensures { PATH_ROOM ≡ length result }
+{
+    [0; PATH_ROOM]
+}
+
+// Argument i at the start of the buffer, and how long it is; none, or one that is longer than the buffer, has no bytes.
+pub fn arg(rt: &HostRuntime, i: usize, buf: &mut [u8]) -> usize
+    ensures { IsPrefixLen result buf.new }
+{
+    rt.arg(i, buf).unwrap_or(0)
+}
+
+// How many arguments there are, the program's own name among them.
+pub fn arg_count(rt: &HostRuntime) -> usize {
+    for i in 0..usize::MAX {
+        if let Err(FillError::NotPresent) = rt.arg(i, &mut []) {
+            return i;
+        }
+    }
+    usize::MAX
+}
+
 // Whether the program was started with so many words, its own name among them; else it says how it is to be started.
-pub fn has_words(given: usize, count: usize, usage: &[u8]) -> bool
+pub fn has_words(rt: &HostRuntime, given: usize, count: usize, usage: &[u8]) -> bool
     ensures { result ≡ eqb given count }
 {
     if given == count {
         return true;
     }
-    say(b"usage: ", usage, b"");
+    say(rt, b"usage: ", usage, b"");
     false
 }

@@ -1,11 +1,11 @@
-// Bytes handed on to standard output. How many were written, and that a write failed, is told by values that no other crate can make: their fields are
-// private, and only `hand` makes more of them.
 #![tactic(auto)]
 
+// Bytes handed on to standard output, and bytes read. How many were written, and that a write failed, is told by values that no other crate can make:
+// their fields are private, and only `hand` makes more of them.
 ghost use Rattle.std.specs.Prelude.{◌≡◌, ◌+◌, ◌≤◌, length};
 ghost use Rattle.handing.specs.Handing.{most_bytes, handed_as, HandedOn};
 
-use libc::STDOUT_FILENO;
+use std::io::Read;
 
 // So many bytes were handed on, and all of them written.
 #[derive(Drop)]
@@ -51,11 +51,26 @@ fn handed_as(before: Written, n: usize, taken: bool) -> Handed
 }
 
 // The first n bytes of the buffer go to standard output, after those that were written before.
-pub fn hand(before: Written, out: &[u8], n: usize) -> Handed
+pub fn hand(rt: &impl Print, before: Written, out: &[u8], n: usize) -> Handed
     requires n_in_bounds { n ≤ length out.now }
     requires n_bound { before.bytes + n ≤ most_bytes }
     ensures { HandedOn before n result }
 {
-    let taken = io::write_all(STDOUT_FILENO, &out[..n]);
+    let taken = rt.write_all(&out[..n]).is_ok();
     handed_as(before, n, taken)
+}
+
+// Reads until the buffer is full, the input ends or a read fails, and answers how many bytes it put at the start of the buffer.
+pub fn read_full(input: &mut impl Read, buf: &mut [u8]) -> usize
+    ensures { result ≤ length buf.new }
+{
+    let mut done = 0;
+    while done < buf.len() {
+        match input.read(&mut buf[done..]) {
+            Ok(0) => break,
+            Ok(n) => done += n,
+            Err(_) => break,
+        }
+    }
+    done
 }

@@ -1,7 +1,7 @@
-// Reads a timetable and ask lines from standard input, and prints what they get. Which lines are printed is fixed in the crate `journey_lines`: here they
-// are handed on, one after the other.
 #![tactic(auto)]
 
+// Reads a timetable and ask lines from standard input, and prints what they get. Which lines are printed is fixed in the crate `journey_lines`: here they
+// are handed on, one after the other.
 ghost use Rattle.journey.specs.Sent.{SentFor};
 
 use builder::Work;
@@ -9,7 +9,7 @@ use kinds::{Minute, Run, Stop, Text};
 use sending::Sent;
 
 // The whole output for an input.
-fn answer(input: &[u8]) -> Sent
+fn answer(rt: &impl Print, input: &[u8]) -> Sent
     ensures { SentFor input.now result }
 {
     let mut runs = [0u32; Run::ROOM];
@@ -19,12 +19,14 @@ fn answer(input: &[u8]) -> Sent
     let first = journey_lines::start(input, &mut runs, &mut codes, &mut tables, &mut work);
     let mut list = [0u32; Minute::LAST as usize];
     let mut out = [0u8; printed::LINE_ROOM];
-    sending::print(input, &runs, &codes, &tables, first, &mut list, &mut out)
+    sending::print(
+        rt, input, &runs, &codes, &tables, first, &mut list, &mut out,
+    )
 }
 
 // One byte more is read than the program holds: that tells longer input from input that it holds.
-fn main() {
+fn main(rt: HostRuntime) {
     let mut input = [0u8; Text::INPUT_MOST + 1];
-    let n = io::read_full(0, &mut input);
-    answer(&input[..n]);
+    let n = handing::read_full(&mut rt.stdin(), &mut input);
+    answer(&rt, &input[..n]);
 }

@@ -1,7 +1,7 @@
-// What kiosk engineering links. Every name begins with kiosk_; all numbers are u32; `answer` is [0, ..] on success and
-// [number, place, stop, 0] on a refusal. include/kiosk.h says the same for C.
 #![tactic(auto)]
 
+// What kiosk engineering calls. Every name begins with kiosk_; all numbers are u32; `answer` is [0, ..] on success and
+// [number, place, stop, 0] on a refusal. The crate `kiosk_c` exports these functions under their names.
 ghost use Rattle.std.specs.Prelude.{◌≡◌, length};
 ghost use Rattle.tables.specs.File.{tables_of};
 ghost use Rattle.asks.specs.declared.Answer.{Answer};
@@ -27,6 +27,7 @@ use rides::RidesAnswer;
 use timetable::Given;
 use verdict::Verdict;
 
+#[tactic(auto, unfolding(crate::specs::Four::four_read))]
 fn four_read(a: ReadAnswer) -> [u32; 4]
     ensures { result ≡ four_read a }
 {
@@ -36,6 +37,7 @@ fn four_read(a: ReadAnswer) -> [u32; 4]
     }
 }
 
+#[tactic(auto, unfolding(crate::specs::Four::four_ask))]
 fn four_ask(a: Answer) -> [u32; 4]
     ensures { result ≡ four_ask a }
 {
@@ -46,13 +48,7 @@ fn four_ask(a: Answer) -> [u32; 4]
 }
 
 // Reads timetable text into run numbers and the codes' places: [0, stops, runs, 0].
-#[unsafe(no_mangle)]
-pub extern "C" fn kiosk_read(
-    text: &[u8],
-    runs: &mut [u32],
-    codes: &mut [u32],
-    answer: &mut [u32; 4],
-)
+pub fn kiosk_read(text: &[u8], runs: &mut [u32], codes: &mut [u32], answer: &mut [u32; 4])
     ensures answer_after { answer.new ≡ four_read (answer_of (read_text text.now (length runs.old) (length codes.old))) }
     ensures runs_after { runs.new ≡ runs_of (read_text text.now (length runs.old) (length codes.old))
         (length runs.old) }
@@ -64,8 +60,7 @@ pub extern "C" fn kiosk_read(
 }
 
 // early(from, to, t) over the tables: [0, departure, arrival, 0].
-#[unsafe(no_mangle)]
-pub extern "C" fn kiosk_early(tables: &[u8], from: u32, to: u32, t: u32, answer: &mut [u32; 4])
+pub fn kiosk_early(tables: &[u8], from: u32, to: u32, t: u32, answer: &mut [u32; 4])
     ensures { (x : Answer) × Answers (tables_of tables.now) (asked tables.now from to (wanted.Early t)) x ×
         (answer.new ≡ four_ask x) }
 {
@@ -74,8 +69,7 @@ pub extern "C" fn kiosk_early(tables: &[u8], from: u32, to: u32, t: u32, answer:
 }
 
 // late(from, to, t) over the tables: [0, departure, arrival, 0].
-#[unsafe(no_mangle)]
-pub extern "C" fn kiosk_late(tables: &[u8], from: u32, to: u32, t: u32, answer: &mut [u32; 4])
+pub fn kiosk_late(tables: &[u8], from: u32, to: u32, t: u32, answer: &mut [u32; 4])
     ensures { (x : Answer) × Answers (tables_of tables.now) (asked tables.now from to (wanted.Late t)) x ×
         (answer.new ≡ four_ask x) }
 {
@@ -84,15 +78,7 @@ pub extern "C" fn kiosk_late(tables: &[u8], from: u32, to: u32, t: u32, answer: 
 }
 
 // short(from, to, t, t2) over the tables: [0, departure, arrival, 0].
-#[unsafe(no_mangle)]
-pub extern "C" fn kiosk_short(
-    tables: &[u8],
-    from: u32,
-    to: u32,
-    t: u32,
-    t2: u32,
-    answer: &mut [u32; 4],
-)
+pub fn kiosk_short(tables: &[u8], from: u32, to: u32, t: u32, t2: u32, answer: &mut [u32; 4])
     ensures { (x : Answer) × Answers (tables_of tables.now) (asked tables.now from to (wanted.Short t t2)) x ×
         (answer.new ≡ four_ask x) }
 {
@@ -100,6 +86,7 @@ pub extern "C" fn kiosk_short(
     *answer = four_ask(a);
 }
 
+#[tactic(auto, unfolding(crate::specs::Four::four_check))]
 fn four_check(a: Verdict) -> [u32; 4]
     ensures { result ≡ four_check a }
 {
@@ -109,6 +96,7 @@ fn four_check(a: Verdict) -> [u32; 4]
     }
 }
 
+#[tactic(auto, unfolding(crate::specs::Four::four_rides))]
 fn four_rides(a: RidesAnswer) -> [u32; 4]
     ensures { result ≡ four_rides a }
 {
@@ -119,16 +107,14 @@ fn four_rides(a: RidesAnswer) -> [u32; 4]
 }
 
 // How many numbers of two bytes the check needs as working room.
-#[unsafe(no_mangle)]
-pub extern "C" fn kiosk_check_room() -> u32
+pub fn kiosk_check_room() -> u32
     ensures { result ≡ work_room }
 {
     both::ROOM as u32
 }
 
 // The check of tables from anyone against a timetable's numbers: [0, 0, 0, 0] where they are accepted.
-#[unsafe(no_mangle)]
-pub extern "C" fn kiosk_check(
+pub fn kiosk_check(
     tables: &[u8],
     stops: u32,
     run_count: u32,
@@ -149,16 +135,14 @@ pub extern "C" fn kiosk_check(
 }
 
 // How many numbers of two bytes an ask with rides needs as working room.
-#[unsafe(no_mangle)]
-pub extern "C" fn kiosk_rides_room() -> u32
+pub fn kiosk_rides_room() -> u32
     ensures { result ≡ work_room }
 {
     both::ROOM as u32
 }
 
 // early with its rides: [0, departure, arrival, rides], and the run numbers in the list.
-#[unsafe(no_mangle)]
-pub extern "C" fn kiosk_early_rides(
+pub fn kiosk_early_rides(
     tables: &[u8],
     stops: u32,
     run_count: u32,
@@ -184,8 +168,7 @@ pub extern "C" fn kiosk_early_rides(
 }
 
 // late with its rides: [0, departure, arrival, rides], and the run numbers in the list.
-#[unsafe(no_mangle)]
-pub extern "C" fn kiosk_late_rides(
+pub fn kiosk_late_rides(
     tables: &[u8],
     stops: u32,
     run_count: u32,
@@ -211,8 +194,7 @@ pub extern "C" fn kiosk_late_rides(
 }
 
 // short with its rides: [0, departure, arrival, rides], and the run numbers in the list.
-#[unsafe(no_mangle)]
-pub extern "C" fn kiosk_short_rides(
+pub fn kiosk_short_rides(
     tables: &[u8],
     stops: u32,
     run_count: u32,
@@ -238,6 +220,7 @@ pub extern "C" fn kiosk_short_rides(
     *answer = four_rides(a);
 }
 
+#[tactic(auto, unfolding(crate::specs::Four::four_build))]
 fn four_build(a: BuildAnswer) -> [u32; 4]
     ensures { result ≡ four_build a }
 {
@@ -248,16 +231,14 @@ fn four_build(a: BuildAnswer) -> [u32; 4]
 }
 
 // How many numbers of two bytes the build needs as working room.
-#[unsafe(no_mangle)]
-pub extern "C" fn kiosk_build_room() -> u32
+pub fn kiosk_build_room() -> u32
     ensures { result ≡ build_room }
 {
     Work::ROOM as u32
 }
 
 // The tables of the label rule for a timetable's numbers: [0, length, labels, 0].
-#[unsafe(no_mangle)]
-pub extern "C" fn kiosk_build(
+pub fn kiosk_build(
     stops: u32,
     run_count: u32,
     runs: &[u32],

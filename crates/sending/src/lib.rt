@@ -1,7 +1,7 @@
-// The lines that a program prints, handed on to standard output one after the other. Which lines they are is fixed in the crate `journey_lines`; that they were
-// written, or that a write failed, is told by the values of the crate `handing`, which cannot be made otherwise.
 #![tactic(auto)]
 
+// The lines that a program prints, handed on to standard output one after the other. Which lines they are is fixed in the crate `journey_lines`; that they were
+// written, or that a write failed, is told by the values of the crate `handing`, which cannot be made otherwise.
 ghost use Rattle.std.specs.Prelude.{◌≤◌, length};
 ghost use Rattle.printed.specs.Printed.{longest_line};
 ghost use Rattle.journey_lines.specs.Steps.{Stands};
@@ -19,6 +19,7 @@ pub enum Sent {
 
 // All lines from the stage `first` on.
 pub fn print(
+    rt: &impl Print,
     input: &[u8],
     runs: &[u32],
     codes: &[u32],
@@ -40,7 +41,7 @@ pub fn print(
                 return Sent::All(written);
             }
             Step::Printed(n, after) => {
-                let handed = handing::hand(written, out, n);
+                let handed = handing::hand(rt, written, out, n);
                 match handed {
                     Handed::Failed(f) => {
                         return Sent::Cut(f);

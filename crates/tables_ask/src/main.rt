@@ -1,7 +1,7 @@
-// Answers ask lines from standard input by a tables file, once the check has accepted it against the timetable; else it says why not. What is said is
-// fixed in the crate `desk`, what the asks get in the crate `journey_lines`.
 #![tactic(auto)]
 
+// Answers ask lines from standard input by a tables file, once the check has accepted it against the timetable; else it says why not. What is said is
+// fixed in the crate `desk`, what the asks get in the crate `journey_lines`.
 ghost use Rattle.std.specs.Prelude.{◌≡◌, ◌+◌, ◌≤◌, length, take, replicate};
 ghost use Rattle.kinds.specs.Limits.{most_text, most_input, last_minute};
 ghost use Rattle.files.specs.Files.{ReadWithin};
@@ -13,7 +13,6 @@ use desk::Admitted;
 use files::FileRead;
 use journey_lines::{Sizes, Stage, Turn};
 use kinds::{Minute, Refusal, Run, Stop, Text};
-use libc::STDIN_FILENO;
 use sending::Sent;
 use timetable::Given;
 
@@ -25,26 +24,33 @@ fn held_room() -> [u8; Text::MOST + 1 + (Text::INPUT_MOST + 1)]
 }
 
 // The text.
-fn read_text(held: &mut [u8]) -> FileRead
+fn read_text(rt: &HostRuntime, held: &mut [u8]) -> FileRead
     requires { held_room ≤ length held.old }
     ensures { ReadWithin (most_text + 1) result }
 {
     let end = Text::MOST + 1;
-    files::read_named(1, Text::MOST as u32, &mut held[..end])
+    files::read_named(rt, 1, Text::MOST as u32, &mut held[..end])
 }
 
 // The asks, read behind the text. The text stays.
-fn read_asks(held: &mut [u8], n: usize) -> usize
+fn read_asks(rt: &HostRuntime, held: &mut [u8], n: usize) -> usize
     requires { n + (most_input + 1) ≤ length held.old }
     ensures upper_bound { result ≤ most_input + 1 }
     ensures held_unchanged { take n held.new ≡ take n held.old }
 {
     let end = n + (Text::INPUT_MOST + 1);
-    io::read_full(STDIN_FILENO, &mut held[n..end])
+    handing::read_full(&mut rt.stdin(), &mut held[n..end])
 }
 
 // What the asks get, from the first line on; only accepted tables answer.
-fn answer(input: &[u8], runs: &[u32], codes: &[u32], tables: &[u8], sizes: Sizes) -> Sent
+fn answer(
+    rt: &HostRuntime,
+    input: &[u8],
+    runs: &[u32],
+    codes: &[u32],
+    tables: &[u8],
+    sizes: Sizes,
+) -> Sent
     requires ready { Ready input.now runs.now codes.now tables.now (replicate last_minute 0) sizes (first_turn sizes.text) }
     requires accepted_for { AcceptedFor input.now runs.now codes.now tables.now sizes }
     ensures { SentFrom input.now runs.now codes.now tables.now (replicate last_minute 0)
@@ -58,6 +64,7 @@ fn answer(input: &[u8], runs: &[u32], codes: &[u32], tables: &[u8], sizes: Sizes
         rides: 0,
     };
     sending::print(
+        rt,
         input,
         runs,
         codes,
@@ -69,15 +76,15 @@ fn answer(input: &[u8], runs: &[u32], codes: &[u32], tables: &[u8], sizes: Sizes
 }
 
 // More asks than the program holds get one answer.
-fn refuse_asks() {
+fn refuse_asks(rt: &HostRuntime) {
     let mut out = [0u8; desk::TOLD_ROOM];
     let a = report::more_line(&mut out, 0, b"standard input", Text::INPUT_MOST as u32);
     let b = report::refusal_line(&mut out, a, Refusal::new(Refusal::OVER_LIMIT, 0));
-    files::tell(&out, b);
+    files::tell(rt, &out, b);
 }
 
 // The check, and then the asks. The first n bytes of the room are the text.
-fn serve(held: &mut [u8], n: usize, tables: &[u8])
+fn serve(rt: &HostRuntime, held: &mut [u8], n: usize, tables: &[u8])
     requires { (held_room ≤ length held.old) × (n ≤ most_text + 1) }
 {
     let mut runs = [0u32; Run::ROOM];
@@ -94,16 +101,17 @@ fn serve(held: &mut [u8], n: usize, tables: &[u8])
     );
     match admitted {
         Admitted::No(told) => {
-            files::tell(&out, told);
+            files::tell(rt, &out, told);
         }
         Admitted::Yes(counts) => {
-            let k = read_asks(held, n);
+            let k = read_asks(rt, held, n);
             if Text::INPUT_MOST < k {
-                refuse_asks();
+                refuse_asks(rt);
                 return;
             }
             let end = n + k;
             answer(
+                rt,
                 &held[..end],
                 &runs,
                 &codes,
@@ -121,17 +129,22 @@ fn serve(held: &mut [u8], n: usize, tables: &[u8])
     }
 }
 
-fn main() {
-    if !files::has_words(os::arg_count(), 3, b"tables_ask TIMETABLE TABLES") {
+fn main(rt: HostRuntime) {
+    if !files::has_words(
+        &rt,
+        files::arg_count(&rt),
+        3,
+        b"tables_ask TIMETABLE TABLES",
+    ) {
         return;
     }
     let mut held = held_room();
-    let FileRead::Read(n) = read_text(&mut held) else {
+    let FileRead::Read(n) = read_text(&rt, &mut held) else {
         return;
     };
     let mut tables = desk::tables_room();
-    let FileRead::Read(m) = files::read_named(2, tables::FILE_ROOM as u32, &mut tables) else {
+    let FileRead::Read(m) = files::read_named(&rt, 2, tables::FILE_ROOM as u32, &mut tables) else {
         return;
     };
-    serve(&mut held, n, &tables[..m]);
+    serve(&rt, &mut held, n, &tables[..m]);
 }

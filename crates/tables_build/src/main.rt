@@ -1,16 +1,15 @@
-// Builds the tables of a timetable and writes them to a file, and says what was written, or why nothing was. What is said of the build is fixed in
-// the crate `desk`.
 #![tactic(auto)]
 
+// Builds the tables of a timetable and writes them to a file, and says what was written, or why nothing was. What is said of the build is fixed in
+// the crate `desk`.
 use desk::Made;
 use files::FileRead;
 use kinds::Text;
-use libc::STDOUT_FILENO;
 
 // Whether a file's name is that of the timetable, letter by letter: the tables would take its place.
-fn is_timetable(path: &[u8]) -> bool {
-    let mut text = io::buffer();
-    let n = os::arg(1, &mut text);
+fn is_timetable(rt: &HostRuntime, path: &[u8]) -> bool {
+    let mut text = files::name_room();
+    let n = files::arg(rt, 1, &mut text);
     if n != path.len() {
         return false;
     }
@@ -18,26 +17,28 @@ fn is_timetable(path: &[u8]) -> bool {
 }
 
 // The tables, as the file that the second word names.
-fn save(tables: &[u8]) -> bool {
-    let mut path = io::buffer();
-    let n = os::arg(2, &mut path);
-    if is_timetable(&path[..n]) {
-        io::write_all(
-            STDOUT_FILENO,
-            b"cannot make the tables: their name is the timetable's\n",
-        );
+fn save(rt: &HostRuntime, tables: &[u8]) -> bool {
+    let mut path = files::name_room();
+    let n = files::arg(rt, 2, &mut path);
+    if is_timetable(rt, &path[..n]) {
+        let _ = rt.write_all(b"cannot make the tables: their name is the timetable's\n");
         return false;
     }
-    files::write(&path[..n], tables)
+    files::write(rt, &path[..n], tables)
 }
 
 // Only tables that were written are told of.
-fn main() {
-    if !files::has_words(os::arg_count(), 3, b"tables_build TIMETABLE TABLES") {
+fn main(rt: HostRuntime) {
+    if !files::has_words(
+        &rt,
+        files::arg_count(&rt),
+        3,
+        b"tables_build TIMETABLE TABLES",
+    ) {
         return;
     }
     let mut text = desk::text_room();
-    let FileRead::Read(n) = files::read_named(1, Text::MOST as u32, &mut text) else {
+    let FileRead::Read(n) = files::read_named(&rt, 1, Text::MOST as u32, &mut text) else {
         return;
     };
     let mut tables = desk::tables_room();
@@ -45,12 +46,12 @@ fn main() {
     let made = desk::built(&text[..n], &mut tables, &mut out);
     match made {
         Made::Tables(long, told) => {
-            if save(&tables[..long]) {
-                files::tell(&out, told);
+            if save(&rt, &tables[..long]) {
+                files::tell(&rt, &out, told);
             }
         }
         Made::No(told) => {
-            files::tell(&out, told);
+            files::tell(&rt, &out, told);
         }
     }
 }

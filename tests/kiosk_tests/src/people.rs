@@ -1,4 +1,4 @@
-//! The programs for people, `target/bin/tables_build`, `tables_check` and
+//! The programs for people, `target/run/tables_build`, `tables_check` and
 //! `tables_ask`, each run in a folder of its own.
 
 use crate::process;

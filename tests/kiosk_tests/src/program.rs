@@ -1,4 +1,4 @@
-//! The program `target/bin/journey`, or the one that `KIOSK_JOURNEY` names.
+//! The program `target/run/journey`, or the one that `KIOSK_JOURNEY` names.
 
 use crate::process;
 use std::path::PathBuf;
