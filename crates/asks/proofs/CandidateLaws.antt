@@ -13,12 +13,12 @@ use Rattle.label_sets.specs.SeekLaws.{dec_past}
 use Rattle.asks.specs.declared.Found.{Found}
 use Rattle.asks.specs.declared.Found.TheVariants as found
 use Rattle.asks.specs.Found.{FoundIn, Plus, taken}
-use Rattle.asks.proofs.FoundLaws.{taken-found, found_same, found_over}
+use Rattle.asks.proofs.FoundLaws.{taken-found, found_same}
 use Rattle.asks.specs.Candidates.{PastPartner, PartnerAt, OutCandidate, own, met, FromOuts, FromIns, Candidate, PartnersFrom}
 
 module _ {T : Tables} (G : GoodTables T) {u v : ℕ} (ou : u < T.stops) (ov : v < T.stops) where
   -- candidates are sketches
-  cand_sketch : (d a : ℕ) → Candidate T u v (T.end ins v) d a → Sketch T u v d a
+  pub cand_sketch : (d a : ℕ) → Candidate T u v (T.end ins v) d a → Sketch T u v d a
   cand_sketch d a (inl f) = go f.is
     where
       k : ℕ
@@ -46,7 +46,7 @@ module _ {T : Tables} (G : GoodTables T) {u v : ℕ} (ou : u < T.stops) (ov : v 
       (f.label, of_in (record { owner = ov; low = f.low; high = f.high; hub = f.hub; dep = f.dep; arr = f.arr; pivot = refl }))
 
   -- and weakly dominate all sketches
-  sketch_cand : (d a : ℕ) → Sketch T u v d a → Within (Candidate T u v (T.end ins v)) d a
+  pub sketch_cand : (d a : ℕ) → Sketch T u v d a → Within (Candidate T u v (T.end ins v)) d a
   sketch_cand d a (single p (k, of_out x)) = itself (inl (record { label = k; low = x.low; high = x.high; is = own x.hub x.dep x.arr }))
   sketch_cand d a (single p (k, of_in x)) = itself (inr (record { label = k; low = x.low; high = x.high; hub = x.hub; dep = x.dep; arr = x.arr }))
   sketch_cand d a (joined h J) =
@@ -92,10 +92,6 @@ module _ {T : Tables} (G : GoodTables T) {u v : ℕ} (ou : u < T.stops) (ov : v 
                   let w = subst (λ z. Entry T ins m v z (T.dep m) (T.arr m) (T.pivot m)) (q.0 ∙ x.hub) e in
                   make q.0 (omega (arith, G.arrs_rise w y b))
               found' (no b) q = let same : m ≡ J.second = omega arith in make (rw same (y.hub ∙ sym x.hub)) (rw same (omega (arith, y.arr)))
-
-  -- so what is found among all candidates is found among the sketches
-  pub found_sketch : (c : Criterion) (best : Found) → FoundIn (Candidate T u v (T.end ins v)) c best → FoundIn (Sketch T u v) c best
-  found_sketch c best = found_over (Candidate T u v (T.end ins v)) (Sketch T u v) c cand_sketch sketch_cand best
 
   -- out-labels i < k of u: what is past the place of k is past the place of i
   past_back : (i k m : ℕ) → T.start outs u ≤ i → i < k → k < T.end outs u → PastPartner T k m → PastPartner T i m

@@ -32,8 +32,8 @@ use Rattle.asks.proofs.CandidateLaws.{
   ins_own,
   ins_none,
   ins_past,
-  found_sketch,
 }
+use Rattle.asks.proofs.SketchLaws.{found_sketch}
 use Rattle.asks.specs.Join.{Sets, OutTurn, Place, OutsDone, InsDone, in_turn}
 
 module _ {b : List ℕ} {n u v outFrom outTo inFrom inTo : ℕ} (S : Sets b n u v outFrom outTo inFrom inTo) where

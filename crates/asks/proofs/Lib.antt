@@ -1,5 +1,7 @@
+pub mod BetterLaws
 pub mod FoundLaws
 pub mod CandidateLaws
+pub mod SketchLaws
 pub mod JoinLaws
 pub mod PermittedLaws
 pub mod AskLaws

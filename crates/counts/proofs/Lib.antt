@@ -1,5 +1,6 @@
 pub mod CountLaws
 pub mod SumLaws
+pub mod PivotLaws
 pub mod LabelLaws
 pub mod RowLaws
 pub mod TallyLaws
