@@ -11,7 +11,7 @@ use Rattle.tables.specs.Read.{ReadsAs}
 use Rattle.tables.specs.Good.{GoodFile}
 use Rattle.tables.specs.TablesLaws.{read_as, good_tables}
 use Rattle.journeys.specs.declared.Criterion.{Criterion}
-use Rattle.journeys.specs.Tables.{outs, ins, GoodTables, Sketch}
+use Rattle.journeys.specs.Tables.{outs, ins, GoodTables}
 use Rattle.loops.specs.First.{FirstAt}
 use Rattle.loops.specs.FirstLaws.{first_extend}
 use Rattle.label_sets.specs.declared.Moment.TheVariants.{Leaving}
@@ -33,17 +33,16 @@ use Rattle.asks.proofs.CandidateLaws.{
   ins_none,
   ins_past,
 }
-use Rattle.asks.proofs.SketchLaws.{found_sketch}
 use Rattle.asks.specs.Join.{Sets, OutTurn, Place, OutsDone, InsDone, in_turn}
 
 module _ {b : List ℕ} {n u v outFrom outTo inFrom inTo : ℕ} (S : Sets b n u v outFrom outTo inFrom inTo) where
-  good : GoodTables (tables_of b)
+  pub good : GoodTables (tables_of b)
   good = good_tables S.out_set.file
 
-  from_stop : u < (tables_of b).stops
+  pub from_stop : u < (tables_of b).stops
   from_stop = set_owned S.out_set
 
-  to_stop : v < (tables_of b).stops
+  pub to_stop : v < (tables_of b).stops
   to_stop = set_owned S.in_set
 
 -- a turn over the out-labels
@@ -157,10 +156,6 @@ module _ {b : List ℕ} {n u v outFrom outTo inFrom inTo : ℕ} (S : Sets b n u 
 
   pub ins_done : {best : Found} {k : ℕ} → InsDone b u v c inTo best k → inTo ≤ k → InsDone b u v c inTo best inTo
   ins_done {best} {k} I le = let e : k ≡ inTo = omega (arith, I.high) in subst (InsDone b u v c inTo best) e I
-
-  -- and that is the best sketch
-  pub ins_found : {best : Found} → InsDone b u v c inTo best inTo → FoundIn (Sketch (tables_of b) u v) c best
-  ins_found {best} I = found_sketch (good S) (from_stop S) (to_stop S) c best (rw S.in_set.end I.found)
 
 -- the bounds of the two sets, as they are read
 pub sets_of : {b : List ℕ} {n u v : ℕ} {o i : Bounds} → GoodFile b n → u < n → v < n → o ≡ bounds_of (tables_of b) outs u → i ≡ bounds_of (tables_of b) ins v →

@@ -1,4 +1,5 @@
-use Rattle.asks.proofs.JoinLaws.{sets_of, ins_begin, ins_found}
+use Rattle.asks.proofs.JoinLaws.{sets_of, ins_begin}
+use Rattle.asks.proofs.InsFoundLaws.{ins_found}
 use Rattle.asks.proofs.best_sketch.Goals as goal
 
 pub over_outs-joined-requires : goal.over_outs-joined-requires
