@@ -10,6 +10,8 @@ loop-k-init c = outs_begin c.requires c.args.c
 pub label_at-l-requires : goal.label_at-l-requires
 label_at-l-requires c = record { room = c.requires.out_set.file.room; k_bound = omega (arith, (set_bounds c.requires.out_set).1) }
 
+-- the partner of out-label k leaves at or after
+-- the label arrives, by the same hub
 pub seek-m-requires : goal.seek-m-requires
 seek-m-requires c = record { room = c.requires.in_set.file.room; from_le_to = (search rules, (set_bounds c.requires.in_set).1) }
 

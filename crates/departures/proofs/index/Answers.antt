@@ -27,6 +27,10 @@ add-requires c = let n = service_slots c.args.given c.args.runs.now in
       i_in_bounds = omega (arith, I.within, I.kept.long, n, c.loop-k-test.true, c.requires.given_in_bounds, c.begin.auto.index);
     }
 
+-- slot k is put in before those that follow it:
+-- the last slots first,
+-- so that for each minute
+-- the lowest slot stands first
 pub loop-k-preserved : goal.loop-k-preserved
 loop-k-preserved c = let n = service_slots c.args.given c.args.runs.now in
     let I = c.loop-k.invariant in
