@@ -15,6 +15,7 @@ import sys
 
 TOP = "crates"
 TOKEN = re.compile(r"[^\s(){}.;,@\"«»\[\]\\`:|]+")
+STRING = re.compile(r'"(?:[^"\\\\]|\\\\.)*"|' + TOKEN.pattern)
 DECLARED = re.compile(r"^\s*(?:(?:unfoldable|abbrev|pub|private)\s+)*(?:(record|data)\s+)?(?:pub\s+)?([^\s:(){}.;,=]+)((?:\s+[({][^=]*)?)\s*:(?!:)")
 # Words of std whose names a lemma's dash may join.
 STD = set("length append take drop set sum min max map filter reverse replicate get_or".split())
@@ -141,15 +142,26 @@ def pairs():
     return out, names
 
 
+# port.py makes one name of two in these crates.
+BY_CRATE = {
+    "journeys": {"or_else": "or_then"},
+    "example/specs/CaseTests.antt": {"or_else": "or_then"},
+    "example/specs/CasesLaws.antt": {"or_else": "or_then"},
+    "tables": {"number_of": "number_told"},
+    "verdict": {"number_of": "number_told"},
+    "asks": {"number_of": "number_told"},
+}
+
+
 def turned(text, new, is_antt):
-    """The text with each name in its new spelling; in comments only where it is quoted."""
+    """The text with each name in its new spelling; in comments only where it is quoted, and in no string."""
     lines = []
     for line in text.split("\n"):
         code, mark, comment = line, "", ""
         at = re.search(r"(?<!\S)--(?!>)", line) if is_antt else re.search(r"(?<!\S)//", line)
         if at:
             code, mark, comment = line[: at.start()], at.group(), line[at.end() :]
-        code = TOKEN.sub(lambda m: new.get(m[0], m[0]), code)
+        code = STRING.sub(lambda m: m[0] if m[0].startswith('"') else new.get(m[0], m[0]), code)
         comment = re.sub(r"`([^`]*)`", lambda m: "`" + TOKEN.sub(lambda n: new.get(n[0], n[0]), m[1]) + "`", comment)
         lines.append(code + mark + comment)
     return "\n".join(lines)
@@ -175,7 +187,7 @@ def main():
         return
     for path in antt_files():
         text = read(path)
-        out = turned(text, new, True)
+        out = turned(text, {**new, **BY_CRATE.get(path.split("/")[1], {}), **BY_CRATE.get(path.partition("/")[2], {})}, True)
         if out != text:
             open(path, "w", encoding="utf-8").write(out)
     # A function of src/ keeps its name, also where a lemma that falls together with a definition gets another.

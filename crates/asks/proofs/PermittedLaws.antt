@@ -125,19 +125,19 @@ module _ (n from to : ℕ) (w : Wanted) where
 
 -- ---- each refusal exactly for its reason
 
-number_of : AskRead → ℕ
-number_of (ask.Good q) = 0
-number_of (ask.No r) = r.number
+number_told : AskRead → ℕ
+number_told (ask.Good q) = 0
+number_told (ask.No r) = r.number
 
 -- a number that is k is no other one
 other : {A : Type 0} {k m r : ℕ} → r ≡ k → ¬ (k ≡ m) → r ≡ m → A
 other e d f = absurd (d (sym e ∙ f))
 
 module _ (n from to : ℕ) (w : Wanted) where
-  reasons : {x : AskRead} → AskIs n from to w x → Reasons n from to w (number_of x)
-  unfolding number_of
+  reasons : {x : AskRead} → AskIs n from to w x → Reasons n from to w (number_told x)
+  unfolding number_told
   reasons (permitted p e) =
-      let f = ap number_of e in
+      let f = ap number_told e in
       record {
         twelve = other f (λ g. omega arith);
         thirteen = other f (λ g. omega arith);
@@ -145,33 +145,33 @@ module _ (n from to : ℕ) (w : Wanted) where
         fifteen = other f (λ g. omega arith);
       }
   reasons (no_stop h e) =
-      let f = ap number_of e in
+      let f = ap number_told e in
       record { twelve = λ g. h; thirteen = other f (λ g. omega arith); fourteen = other f (λ g. omega arith); fifteen = other f (λ g. omega arith) }
   reasons (equal_stops h s e) =
-      let f = ap number_of e in
+      let f = ap number_told e in
       record { twelve = other f (λ g. omega arith); thirteen = λ g. (h, s); fourteen = other f (λ g. omega arith); fifteen = other f (λ g. omega arith) }
   reasons (beyond_range s o e) =
-      let f = ap number_of e in
+      let f = ap number_told e in
       record { twelve = other f (λ g. omega arith); thirteen = other f (λ g. omega arith); fourteen = λ g. (s, o); fifteen = other f (λ g. omega arith) }
   reasons (crossed s r c e) =
-      let f = ap number_of e in
+      let f = ap number_told e in
       record { twelve = other f (λ g. omega arith); thirteen = other f (λ g. omega arith); fourteen = other f (λ g. omega arith); fifteen = λ g. (s, r, c) }
 
   -- 12 "stop not below n"
   pub ask_twelve : (ask_read n from to w ≡ ask.No (refusal stop_high 0)) ↔ ((n ≤ from) ⊎ (n ≤ to))
-  unfolding number_of
-  ask_twelve = (λ f. (reasons (ask_is n from to w)).twelve (ap number_of f), λ h. refused_stop n from to w h)
+  unfolding number_told
+  ask_twelve = (λ f. (reasons (ask_is n from to w)).twelve (ap number_told f), λ h. refused_stop n from to w h)
 
   -- 13 "same stop twice"
   pub ask_thirteen : (ask_read n from to w ≡ ask.No (refusal same_stop 0)) ↔ ((from < n) × (from ≡ to))
-  unfolding number_of
-  ask_thirteen = (λ f. (reasons (ask_is n from to w)).thirteen (ap number_of f), λ h. refused_same n from to w h.0 h.1)
+  unfolding number_told
+  ask_thirteen = (λ f. (reasons (ask_is n from to w)).thirteen (ap number_told f), λ h. refused_same n from to w h.0 h.1)
 
   -- of two different stops 14 "ask minute over 2,879", 15 "t > t2"
   pub ask_fourteen : (ask_read n from to w ≡ ask.No (refusal minute_high 0)) ↔ (TwoStops n from to × OutOfRange w)
-  unfolding number_of
-  ask_fourteen = (λ f. (reasons (ask_is n from to w)).fourteen (ap number_of f), λ h. refused_over n from to w h.0 h.1)
+  unfolding number_told
+  ask_fourteen = (λ f. (reasons (ask_is n from to w)).fourteen (ap number_told f), λ h. refused_over n from to w h.0 h.1)
 
   pub ask_fifteen : (ask_read n from to w ≡ ask.No (refusal minutes_crossed 0)) ↔ (TwoStops n from to × InRange w × Crossed w)
-  unfolding number_of
-  ask_fifteen = (λ f. (reasons (ask_is n from to w)).fifteen (ap number_of f), λ h. refused_crossed n from to w h.0 h.1 h.2)
+  unfolding number_told
+  ask_fifteen = (λ f. (reasons (ask_is n from to w)).fifteen (ap number_told f), λ h. refused_crossed n from to w h.0 h.1 h.2)

@@ -4,7 +4,7 @@ use Rattle.kinds.specs.Limits.{last_minute}
 use Rattle.journeys.specs.declared.Criterion.{Criterion}
 use Rattle.journeys.specs.declared.Criterion.TheVariants.{Early, Late, Short}
 use Rattle.journeys.specs.Service.{Service}
-use Rattle.journeys.specs.Tests.{and_then, or_else, allb, goodb, rideb, withinb}
+use Rattle.journeys.specs.Tests.{and_then, or_then, allb, goodb, rideb, withinb}
 use Rattle.example.specs.Cases.{Reply, at, joined, nothing, Case}
 
 -- a list is the rides of a journey
@@ -23,8 +23,8 @@ unfoldable pub bestb : Service → ℕ → ℕ → Criterion → ℕ → ℕ →
 bestb S u v (Early t) d a = and_then (leb t d) (λ _. and_then (freeb S u v t (pred a)) (λ _. freeb S u v (suc d) a))
 bestb S u v (Late t) d a = and_then (leb a t) (λ _. and_then (freeb S u v (suc d) t) (λ _. freeb S u v d (pred a)))
 bestb S u v (Short t t2) d a = and_then (leb t d)
-    (λ _. and_then (leb a t2) (λ _. and_then (allb (suc t2) (λ s. or_else (ltb s t) (λ _. freeb S u v s (s + pred (a - d)))))
-    (λ _. allb d (λ s. or_else (ltb s t) (λ _. freeb S u v s (s + (a - d)))))))
+    (λ _. and_then (leb a t2) (λ _. and_then (allb (suc t2) (λ s. or_then (ltb s t) (λ _. freeb S u v s (s + pred (a - d)))))
+    (λ _. allb d (λ s. or_then (ltb s t) (λ _. freeb S u v s (s + (a - d)))))))
 
 -- no journey fits
 unfoldable pub noneb : Service → ℕ → ℕ → Criterion → Bool

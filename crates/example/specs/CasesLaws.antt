@@ -10,7 +10,7 @@ use Rattle.journeys.specs.Journey.{Journey, one, more, rides, RidesOf}
 use Rattle.journeys.specs.Criteria.{Best, Nothing}
 use Rattle.journeys.proofs.JourneyLaws.{journey_later, journey_last}
 use Rattle.journeys.proofs.TestLaws.{and_split, or_split, all_of, good_of, ride_of_lem, t_within}
-use Rattle.journeys.specs.Tests.{and_then, or_else, allb, goodb, rideb, withinb}
+use Rattle.journeys.specs.Tests.{and_then, or_then, allb, goodb, rideb, withinb}
 use Rattle.example.specs.Cases.{Reply, at, joined, nothing, Case, Says, Holds}
 use Rattle.example.specs.CaseTests.{ridesb, freeb, bestb, noneb, saysb, casesb}
 
@@ -61,17 +61,17 @@ module _ {S : Service} (G : GoodService S) (u v d a : ℕ) (j : Journey S u v d 
       top' e b k m (inr x) = free_of G u v d (pred a) s₁.1 e b k (omega arith) (omega arith)
   best_of (Short t t2) q = record { has = j; fits = (leb→le t d s.0, leb→le a t2 s₁.0); top = top' }
     where
-      s : T (leb t d) × T (and_then (leb a t2) (λ _. and_then (allb (suc t2) (λ s. or_else (ltb s t) (λ _. freeb S u v s (s + pred (a - d)))))
-          (λ _. allb d (λ s. or_else (ltb s t) (λ _. freeb S u v s (s + (a - d)))))))
+      s : T (leb t d) × T (and_then (leb a t2) (λ _. and_then (allb (suc t2) (λ s. or_then (ltb s t) (λ _. freeb S u v s (s + pred (a - d)))))
+          (λ _. allb d (λ s. or_then (ltb s t) (λ _. freeb S u v s (s + (a - d)))))))
       s = and_split (leb t d) _ q
 
-      s₁ : T (leb a t2) × T (and_then (allb (suc t2) (λ s. or_else (ltb s t) (λ _. freeb S u v s (s + pred (a - d)))))
-          (λ _. allb d (λ s. or_else (ltb s t) (λ _. freeb S u v s (s + (a - d))))))
+      s₁ : T (leb a t2) × T (and_then (allb (suc t2) (λ s. or_then (ltb s t) (λ _. freeb S u v s (s + pred (a - d)))))
+          (λ _. allb d (λ s. or_then (ltb s t) (λ _. freeb S u v s (s + (a - d))))))
       s₁ = and_split (leb a t2) _ s.1
 
-      s₂ : T (allb (suc t2) (λ s. or_else (ltb s t) (λ _. freeb S u v s (s + pred (a - d))))) ×
-          T (allb d (λ s. or_else (ltb s t) (λ _. freeb S u v s (s + (a - d)))))
-      s₂ = and_split (allb (suc t2) (λ s. or_else (ltb s t) (λ _. freeb S u v s (s + pred (a - d))))) _ s₁.1
+      s₂ : T (allb (suc t2) (λ s. or_then (ltb s t) (λ _. freeb S u v s (s + pred (a - d))))) ×
+          T (allb d (λ s. or_then (ltb s t) (λ _. freeb S u v s (s + (a - d)))))
+      s₂ = and_split (allb (suc t2) (λ s. or_then (ltb s t) (λ _. freeb S u v s (s + pred (a - d))))) _ s₁.1
 
       top' : (e b : ℕ) → Journey S u v e b → (t ≤ e) × (b ≤ t2) → ¬ ((b + d < a + e) ⊎ ((b + d ≡ a + e) × (e < d)))
       top' e b k m (inl x) = free_of G u v e (e + pred (a - d))

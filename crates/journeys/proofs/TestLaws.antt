@@ -10,17 +10,17 @@ use Rattle.journeys.specs.Journey.{Journey, Within}
 use Rattle.journeys.proofs.JourneyLaws.{journey_later}
 use Rattle.journeys.proofs.ReachLaws.{of_start, to_start}
 use Rattle.journeys.specs.Paths.{Starts}
-use Rattle.journeys.specs.Tests.{and_then, or_else, anyb, allb, goodb, rideb, startb, reachb, withinb}
+use Rattle.journeys.specs.Tests.{and_then, or_then, anyb, allb, goodb, rideb, startb, reachb, withinb}
 
 pub T_and : (b : Bool) (f : Unit {0} → Bool) → T b → T (f tt) → T (and_then b f)
 T_and true f p q = q
 T_and false f p q = absurd p
 
-pub t_or₁ : (b : Bool) (f : Unit {0} → Bool) → T b → T (or_else b f)
+pub t_or₁ : (b : Bool) (f : Unit {0} → Bool) → T b → T (or_then b f)
 t_or₁ true f p = tt
 t_or₁ false f p = absurd p
 
-pub t_or₂ : (b : Bool) (f : Unit {0} → Bool) → T (f tt) → T (or_else b f)
+pub t_or₂ : (b : Bool) (f : Unit {0} → Bool) → T (f tt) → T (or_then b f)
 t_or₂ true f p = tt
 t_or₂ false f p = p
 
@@ -28,11 +28,11 @@ pub and_split : (b : Bool) (f : Unit {0} → Bool) → T (and_then b f) → T b 
 and_split true f q = (tt, q)
 and_split false f q = absurd q
 
-pub or_cases : (b : Bool) (f : Unit {0} → Bool) → T (or_else b f) → T b ⊎ T (f tt)
+pub or_cases : (b : Bool) (f : Unit {0} → Bool) → T (or_then b f) → T b ⊎ T (f tt)
 or_cases true f q = inl tt
 or_cases false f q = inr q
 
-pub or_split : (b : Bool) (f : Unit {0} → Bool) → T (or_else b f) → T (not b) → T (f tt)
+pub or_split : (b : Bool) (f : Unit {0} → Bool) → T (or_then b f) → T (not b) → T (f tt)
 or_split true f q n = absurd n
 or_split false f q n = q
 
@@ -128,7 +128,7 @@ t_start {S} {u} {v} {t} {e} {i} rest s k =
     (T_and (eqb (S.ride i).from u) _ (t_same (S.ride i).from u s.goes) (T_and (leb t (S.ride i).dep) _ (le→leb t (S.ride i).dep s.after)
     (T_and (leb (S.ride i).arr e) _ (le→leb (S.ride i).arr e s.before) (go s.rest))))
   where
-    go : ((S.ride i).to ≡ v) ⊎ Within (Journey S (S.ride i).to v) (S.ride i).arr e → T (or_else (eqb (S.ride i).to v) rest)
+    go : ((S.ride i).to ≡ v) ⊎ Within (Journey S (S.ride i).to v) (S.ride i).arr e → T (or_then (eqb (S.ride i).to v) rest)
     go (inl p) = t_or₁ (eqb (S.ride i).to v) rest (t_same (S.ride i).to v p)
     go (inr w) = t_or₂ (eqb (S.ride i).to v) rest (k w)
 

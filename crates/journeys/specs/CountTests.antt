@@ -2,7 +2,7 @@
 use Rattle.std.specs.Prelude.{Bool, not, cond, ℕ, zero, suc, ◌+◌, leb, ltb, eqb}
 use Rattle.journeys.specs.Tables.{Side, outs, ins, Tables}
 use Rattle.journeys.specs.Count.{Timed}
-use Rattle.journeys.specs.Tests.{and_then, or_else, allb}
+use Rattle.journeys.specs.Tests.{and_then, or_then, allb}
 
 -- how many numbers below n pass
 unfoldable pub manyb : ℕ → (ℕ → Bool) → ℕ
@@ -21,7 +21,7 @@ unfoldable pub is_withb : Tables → Side → ℕ → ℕ → ℕ → Bool
 is_withb X side s h k = and_then (leb (X.start side s) k) (λ _. and_then (ltb k (X.end side s)) (λ _. eqb (X.hub k) h))
 
 unfoldable pub amongb : Tables → Side → ℕ → ℕ → ℕ → Bool
-amongb X side s h k = or_else (not (is_withb X side s h k))
+amongb X side s h k = or_then (not (is_withb X side s h k))
     (λ _. and_then (leb (first_with X side s h) k) (λ _. ltb k (first_with X side s h + many_with X side s h)))
 
 unfoldable pub withb : Tables → Side → ℕ → ℕ → Bool

@@ -4,7 +4,7 @@ use Rattle.std.proofs.Math.Option.{Option, none, some}
 use Rattle.journeys.specs.Service.{Service}
 use Rattle.journeys.specs.Tables.{Side, outs, ins, Tables}
 use Rattle.journeys.specs.Rule.{Rule}
-use Rattle.journeys.specs.Tests.{and_then, or_else, anyb, allb, rideb, withinb}
+use Rattle.journeys.specs.Tests.{and_then, or_then, anyb, allb, rideb, withinb}
 
 -- the rides that a journey begins and ends with
 pub record First (S : Service) (u d i : ℕ) : Type 0 where
@@ -56,7 +56,7 @@ sideb S ins s h d a p = ruleb S h s d a p
 
 -- each label of a set is one of the rule
 unfoldable pub setb : Service → Tables → Side → ℕ → Bool
-setb S X side s = allb (X.end side s) (λ k. or_else (ltb k (X.start side s))
+setb S X side s = allb (X.end side s) (λ k. or_then (ltb k (X.start side s))
     (λ _. and_then (ltb (X.hub k) s) (λ _. sideb S side s (X.hub k) (X.dep k) (X.arr k) (X.pivot k))))
 
 -- label u to v with the pair
@@ -66,7 +66,7 @@ heldb X side s h d a = and_then (ltb s X.stops) (λ _. anyb (X.end side s) (λ k
 
 -- a pair that has a label by the rule has one in the tables
 unfoldable pub pairb : Service → Tables → ℕ → ℕ → ℕ → ℕ → Bool
-pairb S X u v d a = or_else (not (labelledb S u v d a)) (λ _. or_else (heldb X outs u v d a) (λ _. heldb X ins v u d a))
+pairb S X u v d a = or_then (not (labelledb S u v d a)) (λ _. or_then (heldb X outs u v d a) (λ _. heldb X ins v u d a))
 
 -- all sets; all pairs of two rides
 unfoldable pub soundb : Service → Tables → Bool

@@ -8,14 +8,14 @@ abbrev pub and_then : Bool → (Unit {0} → Bool) → Bool
 and_then true f = f tt
 and_then false f = false
 
-abbrev pub or_else : Bool → (Unit {0} → Bool) → Bool
-or_else true f = true
-or_else false f = f tt
+abbrev pub or_then : Bool → (Unit {0} → Bool) → Bool
+or_then true f = true
+or_then false f = f tt
 
 -- some, or every, number below n passes
 unfoldable pub anyb : ℕ → (ℕ → Bool) → Bool
 anyb zero p = false
-anyb (suc n) p = or_else (p n) (λ _. anyb n p)
+anyb (suc n) p = or_then (p n) (λ _. anyb n p)
 
 unfoldable pub allb : ℕ → (ℕ → Bool) → Bool
 allb zero p = true
@@ -35,7 +35,7 @@ rideb S i u v d a = and_then (ltb i S.slots)
 -- slot i starts a journey u to v within t and e, given the test of the rest
 unfoldable pub startb : Service → ℕ → ℕ → ℕ → ℕ → ℕ → (Unit {0} → Bool) → Bool
 startb S u v t e i rest = and_then (S.in_force i) (λ _. and_then (eqb (S.ride i).from u) (λ _. and_then (leb t (S.ride i).dep) (λ _.
-    and_then (leb (S.ride i).arr e) (λ _. or_else (eqb (S.ride i).to v) rest))))
+    and_then (leb (S.ride i).arr e) (λ _. or_then (eqb (S.ride i).to v) rest))))
 
 -- a search for a journey u to v within t and e, of at most f rides
 unfoldable pub reachb : Service → ℕ → ℕ → ℕ → ℕ → ℕ → Bool

@@ -34,11 +34,11 @@ a_label_of_a_run : label_line codes 0 moor hub 480 500 Direct ≡ bytes "label 0
 unfolding label_line
 a_label_of_a_run = simp decimal_is refl
 
-a_bad_label : entry_line 0 true 1 9 480 500 pivot.No ≡ bytes "label 0: an out_label of stop 1, hub 9, leaves 480, arrives 500, no pivot\n"
+a_bad_label : entry_line 0 true 1 9 480 500 pivot.No ≡ bytes "label 0: an out-label of stop 1, hub 9, leaves 480, arrives 500, no pivot\n"
 unfolding entry_line
 a_bad_label = simp decimal_is refl
 
-another : entry_line 5 false 3 2 500 480 (pivot.At 7) ≡ bytes "label 5: an in_label of stop 3, hub 2, leaves 500, arrives 480, pivot 7\n"
+another : entry_line 5 false 3 2 500 480 (pivot.At 7) ≡ bytes "label 5: an in-label of stop 3, hub 2, leaves 500, arrives 480, pivot 7\n"
 unfolding entry_line
 another = simp decimal_is refl
 

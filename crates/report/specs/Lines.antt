@@ -42,8 +42,8 @@ pivot_words (pivot.At p) = counted ", pivot" p
 
 -- in which of its owner's two sets a label stands
 abbrev pub set_words : Bool → String
-set_words true = ": an out_label of stop"
-set_words false = ": an in_label of stop"
+set_words true = ": an out-label of stop"
+set_words false = ": an in-label of stop"
 
 -- "label 0: an out-label of stop 1, hub 9, leaves 480, arrives 500, no pivot": by its numbers, which where it is not good need not be stops and minutes
 unfoldable pub entry_line : ℕ → Bool → ℕ → ℕ → ℕ → ℕ → Pivot → List ℕ

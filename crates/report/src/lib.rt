@@ -249,9 +249,9 @@ fn put_set(out: &mut [u8], at: usize, outgoing: bool, owner: u32) -> usize
     ensures upper_bound { result ≤ at + 40 }
 {
     if outgoing {
-        return put_counted(out, at, b": an out_label of stop", owner);
+        return put_counted(out, at, b": an out-label of stop", owner);
     }
-    put_counted(out, at, b": an in_label of stop", owner)
+    put_counted(out, at, b": an in-label of stop", owner)
 }
 
 fn put_pivot(out: &mut [u8], at: usize, pivot: Pivot) -> usize

@@ -49,9 +49,9 @@ judged-refusal b =
 
 -- ---- the label that is not good
 
-number_of : TablesRead → ℕ
-number_of (Good n) = 0
-number_of (No r) = r.number
+number_told : TablesRead → ℕ
+number_told (Good n) = 0
+number_told (No r) = r.number
 
 place_told : TablesRead → ℕ
 place_told (Good n) = 0
@@ -97,14 +97,14 @@ bad_first b k e = go (first_of_found (bad_in_set b) (2 * stops_of b) e)
             subst (λ (y : ℕ). bad_label b y j ≡ none) s (x.4 j (omega (arith, ap (start_of b) s, x.2)))
 
 pub judged_bad : (b : List ℕ) (k : ℕ) → judged_tables b ≡ No (refusal label_bad k) → Room b (stops_of b) × BadFirst b (stops_of b) k
-unfolding judged_tables judged_contents number_of
+unfolding judged_tables judged_contents number_told
 judged_bad b k e =
-    let z₁ = stays (leb header_bytes (length b)) e (λ x. let y = ap number_of x in omega arith) in
-    let z₂ = stays (eqb (get_or b 0 0) format_mark) z₁.1 (λ x. let y = ap number_of x in omega arith) in
-    let z₃ = stays (is_stop_count (stops_of b)) z₂.1 (λ x. let y = ap number_of x in omega arith) in
-    let z₄ = stays (leb (header_bytes + entry_bytes * stops_of b) (length b)) z₃.1 (λ x. let y = ap number_of x in omega arith) in
-    let z₅ = stays (leb (labels_of b) most_labels) z₄.1 (λ x. let y = ap number_of x in omega arith) in
-    let z₆ = stays (eqb (length b) (place_of (stops_of b) (labels_of b))) z₅.1 (λ x. let y = ap number_of x in omega arith) in
+    let z₁ = stays (leb header_bytes (length b)) e (λ x. let y = ap number_told x in omega arith) in
+    let z₂ = stays (eqb (get_or b 0 0) format_mark) z₁.1 (λ x. let y = ap number_told x in omega arith) in
+    let z₃ = stays (is_stop_count (stops_of b)) z₂.1 (λ x. let y = ap number_told x in omega arith) in
+    let z₄ = stays (leb (header_bytes + entry_bytes * stops_of b) (length b)) z₃.1 (λ x. let y = ap number_told x in omega arith) in
+    let z₅ = stays (leb (labels_of b) most_labels) z₄.1 (λ x. let y = ap number_told x in omega arith) in
+    let z₆ = stays (eqb (length b) (place_of (stops_of b) (labels_of b))) z₅.1 (λ x. let y = ap number_told x in omega arith) in
     let s = stop_count (stops_of b) z₃.0 in (
       record {
         contents = record { stops = refl; few = s.1; fits = leb-true _ _ z₄.0 };

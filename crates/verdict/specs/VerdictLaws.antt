@@ -74,9 +74,9 @@ checked_one b given list lent x y =
 
 -- ---- each answer is given exactly when its reason holds
 
-number_of : Verdict → ℕ
-number_of Accepted = 0
-number_of (No x) = x.number
+number_told : Verdict → ℕ
+number_told Accepted = 0
+number_told (No x) = x.number
 
 place_told : Verdict → ℕ
 place_told Accepted = 0
@@ -96,22 +96,22 @@ module _ {S : Service} {T : Tables} {r : Verdict} (o : CheckedAs S T r) where
       to e (all_well x f) = x
 
   pub refuses_label : (k : ℕ) → (r ≡ No (refusal unsupported k)) ↔ UnsupportedFirst S T k
-  unfolding number_of place_told
+  unfolding number_told place_told
   refuses_label k = (λ e. to e o, λ x. checked_as_one o (unsupported_at k x refl))
     where
       to : r ≡ No (refusal unsupported k) → CheckedAs S T r → UnsupportedFirst S T k
       to e (unsupported_at j x f) = subst (UnsupportedFirst S T) (ap place_told (sym f ∙ e)) x
-      to e (gap_at i v x f) = absurd (omega (arith, ap number_of (sym f ∙ e)))
-      to e (all_well x f) = absurd (omega (arith, ap number_of (sym f ∙ e)))
+      to e (gap_at i v x f) = absurd (omega (arith, ap number_told (sym f ∙ e)))
+      to e (all_well x f) = absurd (omega (arith, ap number_told (sym f ∙ e)))
 
   pub refuses_gap : (run v : ℕ) → (r ≡ No (gap_refusal run v)) ↔ GapAtRun S T run v
-  unfolding number_of place_told stop_told
+  unfolding number_told place_told stop_told
   refuses_gap run v = (λ e. to e o, λ x. checked_as_one o (gap_at x.slot v x.first (ap (λ z. No (gap_refusal z v)) (sym x.stands))))
     where
       to : r ≡ No (gap_refusal run v) → CheckedAs S T r → GapAtRun S T run v
-      to e (unsupported_at j x f) = absurd (omega (arith, ap number_of (sym f ∙ e)))
+      to e (unsupported_at j x f) = absurd (omega (arith, ap number_told (sym f ∙ e)))
       to e (gap_at j w x f) = record { slot = j; stands = ap place_told (sym f ∙ e); first = subst (GapFirst S T j) (ap stop_told (sym f ∙ e)) x }
-      to e (all_well x f) = absurd (omega (arith, ap number_of (sym f ∙ e)))
+      to e (all_well x f) = absurd (omega (arith, ap number_told (sym f ∙ e)))
 
 -- ---- what was judged good
 
