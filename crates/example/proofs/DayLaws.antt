@@ -37,7 +37,7 @@ use Rattle.builder.specs.declared.BuildAnswer.{BuildAnswer}
 use Rattle.builder.specs.declared.BuildAnswer.TheVariants.{Built}
 use Rattle.example.specs.Day.{day_text, text_without2, read_whole, in_force_of, stop_called, example_day, day_numbers, without_run2, day_tables}
 use Rattle.example.specs.Cases.{Holds, cases_ato_j}
-use Rattle.example.specs.CasesLaws.{cases_of}
+use Rattle.example.proofs.CasesLaws.{cases_of}
 use Rattle.example.specs.CaseTests.{ridesb, freeb, bestb, noneb, saysb, casesb}
 use Rattle.example.specs.DayNumbers.{six_runs, five_runs, four_codes}
 
