@@ -15,7 +15,7 @@ import sys
 
 TOP = "crates"
 TOKEN = re.compile(r"[^\s(){}.;,@\"«»\[\]\\`:|]+")
-STRING = re.compile(r'"(?:[^"\\\\]|\\\\.)*"|' + TOKEN.pattern)
+STRING = re.compile(r'"(?:[^"\\]|\\.)*"|' + TOKEN.pattern)
 DECLARED = re.compile(r"^\s*(?:(?:unfoldable|abbrev|pub|private)\s+)*(?:(record|data)\s+)?(?:pub\s+)?([^\s:(){}.;,=]+)((?:\s+[({][^=]*)?)\s*:(?!:)")
 # Words of std whose names a lemma's dash may join.
 STD = set("length append take drop set sum min max map filter reverse replicate get_or".split())

@@ -51,7 +51,7 @@ fn handed_as(before: Written, n: usize, taken: bool) -> Handed
 }
 
 // The first n bytes of the buffer go to standard output, after those that were written before.
-pub fn hand(rt: &impl Print, before: Written, out: &[u8], n: usize) -> Handed
+pub fn hand(rt: &HostRuntime, before: Written, out: &[u8], n: usize) -> Handed
     requires n_in_bounds { n ≤ length out.now }
     requires n_bound { before.bytes + n ≤ most_bytes }
     ensures { HandedOn before n result }

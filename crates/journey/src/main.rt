@@ -9,7 +9,7 @@ use kinds::{Minute, Run, Stop, Text};
 use sending::Sent;
 
 // The whole output for an input.
-fn answer(rt: &impl Print, input: &[u8]) -> Sent
+fn answer(rt: &HostRuntime, input: &[u8]) -> Sent
     ensures { SentFor input.now result }
 {
     let mut runs = [0u32; Run::ROOM];

@@ -19,7 +19,7 @@ pub enum Sent {
 
 // All lines from the stage `first` on.
 pub fn print(
-    rt: &impl Print,
+    rt: &HostRuntime,
     input: &[u8],
     runs: &[u32],
     codes: &[u32],

@@ -5,7 +5,7 @@ use Rattle.journey_lines.specs.OutputLaws.{along_none, along_less, along_more, a
 use Rattle.sending.proofs.print.Goals as goal
 
 pub loop-n-init : goal.loop-n-init
-loop-n-init g c =
+loop-n-init c =
     record {
       along = along_none _ _ _ _ _ _ c.requires.stands (ap (λ (w : Written). w.bytes) c.none-written.ensures);
       room = c.requires.longest_line_in_bounds;
@@ -14,21 +14,21 @@ loop-n-init g c =
     }
 
 pub returns-in-Nothing : goal.returns-in-Nothing
-returns-in-Nothing g c = along_all _ _ _ _ _ _ _ _ _ _ _ c.loop-n.invariant.along c.in-Nothing.ensures refl
+returns-in-Nothing c = along_all _ _ _ _ _ _ _ _ _ _ _ c.loop-n.invariant.along c.in-Nothing.ensures refl
 
 pub returns-in-Failed : goal.returns-in-Failed
-returns-in-Failed g c =
+returns-in-Failed c =
     let i = c.loop-n.invariant in
     let f = handed_failed c.in-Failed.ensures _ refl in
     let d = along_due _ _ _ _ _ _ _ _ _ _ _ i.along c.in-Printed.ensures _ _ refl i.room c.next-step.auto.out in
     record { some = omega (arith, d.0, f.1); due = λ xs P. omega (arith, d.1 xs P, f.0, f.1) }
 
 pub loop-n-smaller : goal.loop-n-smaller
-loop-n-smaller g c =
+loop-n-smaller c =
     along_less _ _ _ _ _ _ _ _ _ _ _ c.loop-n.invariant.along c.in-Printed.ensures _ _ refl c.next-step.auto.list
 
 pub loop-n-preserved : goal.loop-n-preserved
-loop-n-preserved g c =
+loop-n-preserved c =
     let i = c.loop-n.invariant in
     let l = c.next-step.auto.list in
     let o = c.next-step.auto.out in

@@ -5,7 +5,7 @@ use Rattle.journey_lines.specs.Along.{Along}
 use Rattle.sending.proofs.print.Given as goal
 
 abbrev pub invariant-loop-n : goal.invariant-loop-n
-invariant-loop-n g l = record {
+invariant-loop-n l = record {
   along : Along l.fn.input l.fn.runs l.fn.codes l.fn.tables l.fn.list l.initial.stage l.list l.stage l.written.bytes;
   room : longest_line ≤ length l.out;
   listed : length l.list ≡ length l.initial.list;
@@ -13,4 +13,4 @@ invariant-loop-n g l = record {
 }
 
 abbrev pub decreases-loop-n : goal.decreases-loop-n
-decreases-loop-n g l = left (length l.fn.input) l.stage
+decreases-loop-n l = left (length l.fn.input) l.stage
