@@ -52,11 +52,11 @@ BY_HAND = {
 }
 
 
-def antt_files():
-    for folder, dirs, files in os.walk(TOP):
+def files(ending):
+    for folder, dirs, names in os.walk(TOP):
         dirs[:] = sorted(d for d in dirs if d != "out")
-        for name in sorted(files):
-            if name.endswith(".antt"):
+        for name in sorted(names):
+            if name.endswith(ending):
                 yield os.path.join(folder, name)
 
 
@@ -78,7 +78,7 @@ def is_of_functions(path):
 def declared():
     """The declared names, each with the files that declare it; and those that are functions."""
     names, functions = {}, set()
-    for path in antt_files():
+    for path in files(".antt"):
         if re.search(r"/proofs/.*(Proof|Invariants|Answers)\.antt$|/Lib\.antt$", path):
             continue
         depth_where = False
@@ -99,25 +99,10 @@ def declared():
 def imported():
     """Names that some file brings from a library: they are not ours to rename."""
     found = set()
-    for path in list(antt_files()) + list(sources()):
+    for path in list(files(".antt")) + list(files(".rt")):
         for m in re.finditer(r"use\s+((?:Rattle\.std|mathlib|lib|borrow|native|Prim|denote|mir|seplogic)[\w.+-]*)\.\{([^}]*)\}", read(path)):
             found |= {it.split(" as ")[0].strip() for it in m[2].split(",")}
     return found
-
-
-def sources():
-    for folder, dirs, files in os.walk(TOP):
-        dirs[:] = sorted(d for d in dirs if d != "out")
-        for name in sorted(files):
-            if name.endswith(".rt"):
-                yield os.path.join(folder, name)
-
-
-def edits():
-    for folder, dirs, files in os.walk(TOP):
-        for name in sorted(files):
-            if name.endswith(".edit"):
-                yield os.path.join(folder, name)
 
 
 def pairs():
@@ -171,7 +156,7 @@ def main():
     check = "--check" in sys.argv
     new, names = pairs()
     used = set()
-    for path in list(antt_files()) + list(sources()):
+    for path in list(files(".antt")) + list(files(".rt")):
         for line in read(path).split("\n"):
             line = re.sub(r"(?<!\S)(--|//).*", "", line)
             used |= set(TOKEN.findall(line))
@@ -185,14 +170,14 @@ def main():
             print(f"falls together: {to}: {' '.join(froms)}{' (in use)' if to in used else ''}")
     if check:
         return
-    for path in antt_files():
+    for path in files(".antt"):
         text = read(path)
         out = turned(text, {**new, **BY_CRATE.get(path.split("/")[1], {}), **BY_CRATE.get(path.partition("/")[2], {})}, True)
         if out != text:
             open(path, "w", encoding="utf-8").write(out)
     # A function of src/ keeps its name, also where a lemma that falls together with a definition gets another.
-    functions = {it for path in sources() for it in re.findall(r"\bfn (\w+)", read(path))}
-    for path in list(sources()) + list(edits()):
+    functions = {it for path in files(".rt") for it in re.findall(r"\bfn (\w+)", read(path))}
+    for path in list(files(".rt")) + list(files(".edit")):
         text = read(path)
         out = turned(text, {k: v for k, v in new.items() if k not in functions}, False)
         if out != text:
