@@ -10,53 +10,55 @@ ghost use Rattle.printed.specs.Printed.{longest_line};
 ghost use Rattle.printed.specs.Wrote.{Wrote};
 ghost use Rattle.answers.specs.Answers.{LineGets, head_of, ride_line_of, Ridden};
 
-use askline::LineRead;
 use kinds::Refusal;
-use rides::RidesAnswer;
+use lookup::Known;
+use rides::Listed;
 use timetable::Given;
+use words::Stretch;
 
-// What the line of the input from `from` up to `to` gets; its rides are in the list.
+// What the line gets; its rides are in the list.
 pub fn answer(
     text: &[u8],
     codes: &[u32],
     given: Given,
     runs: &[u32],
     tables: &[u8],
-    input: &[u8],
-    from: usize,
-    to: usize,
+    line: Stretch<'_>,
     list: &mut [u32],
     work: &mut [u16],
-) -> RidesAnswer
+) -> Result<Listed, Refusal>
     requires placed { Placed text.now codes.now given.stops }
-    requires from_le_to { (from ≤ to) × (to ≤ length input.now) }
     ensures line_gets { LineGets tables.now given runs.now (length work.old)
-        (ask_line text.now codes.now given.stops input.now from to) list.old list.new result }
+        (ask_line text.now codes.now given.stops line.entry.text.now line.entry.from line.entry.to) list.old list.new result }
     ensures work_after { work.new ≡ zeros work.old }
 {
-    let line = askline::ask_at(text, codes, given.stops, input, from, to);
-    match line {
-        LineRead::No(number) => {
-            loops::zero_u32(list);
-            loops::zero_u16(work);
-            RidesAnswer::No(Refusal::new(number, 0))
-        }
-        LineRead::Asked(ask) => {
-            let wanted = ask.wanted;
-            rides::answered(tables, given, runs, ask.from, ask.to, wanted, list, work)
+    let known = Known {
+        text,
+        codes,
+        stops: given.stops,
+    };
+    // By match, not by `?`: a refused line leaves both buffers zero.
+    match askline::ask_at(known, line) {
+        Ok(ask) => rides::answered(
+            tables, given, runs, ask.from, ask.to, ask.wanted, list, work,
+        ),
+        Err(reason) => {
+            loops::zero(list);
+            loops::zero(work);
+            Err(Refusal::from(reason))
         }
     }
 }
 
 // The first line of an answer.
-pub fn head(out: &mut [u8], answer: RidesAnswer) -> usize
+pub fn head(out: &mut [u8], answer: Result<Listed, Refusal>) -> usize
     requires { longest_line ≤ length out.old }
     ensures wrote { Wrote out.old 0 (head_of answer) out.new result }
     ensures upper_bound { result ≤ longest_line }
 {
     match answer {
-        RidesAnswer::At(j) => printed::at_line(out, j.dep as u32, j.arr as u32, j.rides),
-        RidesAnswer::No(r) => printed::no_line(out, r.number),
+        Ok(j) => printed::at_line(out, j.dep as u32, j.arr as u32, j.rides),
+        Err(r) => printed::no_line(out, r.reason.number()),
     }
 }
 

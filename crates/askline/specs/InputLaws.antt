@@ -43,6 +43,9 @@ module _ {t : List ℕ} {a : ℕ} (r : Ending t a) (e : ℕ) (at : e ≡ seek lf
           enough = omega (arith, r.enough, r.within, at, seek_low lf t a (length t));
         }
 
+-- what the turns of the loop are proved by
+pub ruleset ending_turns = (ending_none, ending_out, ending_here, ending_more)
+
 -- the timetable is within the input
 end_within : (f : ℕ) (t : List ℕ) (a : ℕ) → end_from f t a ≤ length t
 unfolding end_from
@@ -65,8 +68,8 @@ timetable_within t = end_within (length t) t 0
 pub line_within : (t : List ℕ) (a e : ℕ) → piece_at t a ≡ Line e → (a ≤ e) × (e < length t)
 unfolding piece_at
 line_within t a e h =
-    let z₁ = past (leb (length t) a) h (λ x. let y : ◌≡◌ {A = ℕ} 0 1 = cc in omega arith) in
-    let z₂ = past (leb (length t) (seek lf t a (length t))) z₁.1 (λ x. let y : ◌≡◌ {A = ℕ} 0 1 = cc in omega arith) in
+    let z₁ = past (leb (length t) a) h (λ x. cc) in
+    let z₂ = past (leb (length t) (seek lf t a (length t))) z₁.1 (λ x. cc) in
     let g = z₂.1 in
     let same : seek lf t a (length t) ≡ e = cc in
     let lt : seek lf t a (length t) < length t = leb-false (length t) (seek lf t a (length t)) z₂.0 in

@@ -1,9 +1,9 @@
 -- What is known of an ask line that was read.
-use Rattle.std.specs.Prelude.{ℕ, ◌≤◌, ◌<◌, ◌≡◌, List, ◌⊎◌, length}
-use Rattle.kinds.specs.Refusals.{line_shape, stop_unknown}
+use Rattle.std.specs.Prelude.{ℕ, ◌≤◌, ◌<◌, ◌≡◌, List, ◌⊎◌, length, Err, Ok, Result}
 use Rattle.askline.specs.declared.Shape.{Shape}
-use Rattle.askline.specs.declared.LineRead.{LineRead}
-use Rattle.askline.specs.declared.LineRead.TheVariants.{Asked, No}
+use Rattle.kinds.specs.declared.Reason.TheVariants as reason
+use Rattle.askline.specs.declared.Ask.{Ask}
+use Rattle.kinds.specs.declared.Reason.{Reason}
 
 -- FROM and TO stand in the input
 pub record ShapeWithin (t : List ℕ) (f : Shape) : Type 0 where
@@ -13,6 +13,6 @@ pub record ShapeWithin (t : List ℕ) (f : Shape) : Type 0 where
   pub to_high : f.to.end ≤ length t
 
 -- what a line is read as: an ask of two stops, or refused by 2 or by 5
-abbrev pub ReadAs : ℕ → LineRead → Type 0
-ReadAs stops (Asked q) = (q.from < stops) × (q.to < stops)
-ReadAs stops (No n) = (n ≡ line_shape) ⊎ (n ≡ stop_unknown)
+abbrev pub ReadAs : ℕ → Result Ask Reason → Type 0
+ReadAs stops (Ok q) = (q.from < stops) × (q.to < stops)
+ReadAs stops (Err n) = (n ≡ reason.LineShape) ⊎ (n ≡ reason.StopUnknown)

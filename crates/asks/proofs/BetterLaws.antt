@@ -1,5 +1,5 @@
 -- What the tests of a criterion say.
-use Rattle.std.specs.Prelude.{ℕ, ◌+◌, ◌≤◌, ◌<◌, ◌≡◌, refl, ◌⊎◌, Bool, cond, ltb, leb, eqb}
+use Rattle.std.specs.Prelude.{ℕ, ◌≤◌, ◌<◌, ◌≡◌, refl, ◌⊎◌, Bool, cond, ltb, leb, eqb}
 use Rattle.std.proofs.Common.{sym, inl, inr, arith, ltb-true, ltb-false, leb-true, leb-false, eqb-true}
 use Rattle.std.proofs.Math.Bool.{true, false}
 use Rattle.std.proofs.lemmas.Bool.{eqb-false}
@@ -48,14 +48,14 @@ ahead_false x y tie e = go (ltb x y) (eqb x y) (ltb-false x y) (eqb-false x y) e
     go false false f g q = (f refl, λ h. absurd (g refl h))
 
 pub better_true : (c : Criterion) (d a e b : ℕ) → better_b c d a e b ≡ true → Better c d a e b
-better_true (Early t) d a e b q = elim (ahead_true a b (ltb e d) q) [ inl x ↦ inl x | inr x ↦ inr (x.0, ltb-true e d x.1) ]
-better_true (Late t) d a e b q = elim (ahead_true e d (ltb a b) q) [ inl x ↦ inl x | inr x ↦ inr (sym x.0, ltb-true a b x.1) ]
-better_true (Short t t2) d a e b q = elim (ahead_true (a + e) (b + d) (ltb d e) q) [ inl x ↦ inl x | inr x ↦ inr (x.0, ltb-true d e x.1) ]
+better_true (Early t) d a e b q = elim (ahead_true _ _ _ q) [ inl x ↦ inl x | inr x ↦ inr (x.0, ltb-true _ _ x.1) ]
+better_true (Late t) d a e b q = elim (ahead_true _ _ _ q) [ inl x ↦ inl x | inr x ↦ inr (sym x.0, ltb-true _ _ x.1) ]
+better_true (Short t t2) d a e b q = elim (ahead_true _ _ _ q) [ inl x ↦ inl x | inr x ↦ inr (x.0, ltb-true _ _ x.1) ]
 
 pub better_false : (c : Criterion) (d a e b : ℕ) → better_b c d a e b ≡ false → ¬ (Better c d a e b)
-better_false (Early t) d a e b q (inl h) = omega (arith, (ahead_false a b (ltb e d) q).0)
-better_false (Early t) d a e b q (inr h) = omega (arith, ltb-false e d ((ahead_false a b (ltb e d) q).1 h.0))
-better_false (Late t) d a e b q (inl h) = omega (arith, (ahead_false e d (ltb a b) q).0)
-better_false (Late t) d a e b q (inr h) = omega (arith, ltb-false a b ((ahead_false e d (ltb a b) q).1 (sym h.0)))
-better_false (Short t t2) d a e b q (inl h) = omega (arith, (ahead_false (a + e) (b + d) (ltb d e) q).0)
-better_false (Short t t2) d a e b q (inr h) = omega (arith, ltb-false d e ((ahead_false (a + e) (b + d) (ltb d e) q).1 h.0))
+better_false (Early t) d a e b q (inl h) = omega (arith, (ahead_false _ _ _ q).0)
+better_false (Early t) d a e b q (inr h) = omega (arith, ltb-false _ _ ((ahead_false _ _ _ q).1 h.0))
+better_false (Late t) d a e b q (inl h) = omega (arith, (ahead_false _ _ _ q).0)
+better_false (Late t) d a e b q (inr h) = omega (arith, ltb-false _ _ ((ahead_false _ _ _ q).1 (sym h.0)))
+better_false (Short t t2) d a e b q (inl h) = omega (arith, (ahead_false _ _ _ q).0)
+better_false (Short t t2) d a e b q (inr h) = omega (arith, ltb-false _ _ ((ahead_false _ _ _ q).1 h.0))

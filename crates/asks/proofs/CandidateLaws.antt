@@ -1,5 +1,5 @@
 -- Candidates are sketches and weakly dominate all sketches, so the best candidate is the best sketch; and the turns of the join's loops.
-use Rattle.std.specs.Prelude.{ℕ, ◌+◌, ◌≤◌, ◌<◌, ◌≡◌, refl, ◌⊎◌, ◌≢◌}
+use Rattle.std.specs.Prelude.{ℕ, ◌+◌, ◌≤◌, ◌<◌, ◌≡◌, refl, ◌⊎◌, ◌≢◌, None, Option}
 use Rattle.std.proofs.Common.{sym, subst, ◌∙◌, inl, inr, arith, le_refl}
 use Rattle.std.proofs.Math.Decide.{ℕ_discrete, dec_le, dec_lt}
 use Rattle.loops.specs.FirstLaws.{passed_none, first_one, first_at}
@@ -8,13 +8,11 @@ use Rattle.journeys.specs.Journey.{Within}
 use Rattle.journeys.proofs.PairLaws.{itself}
 use Rattle.journeys.specs.Tables.{outs, ins, Tables, Entry, of_out, of_in, GoodTables, Sketch, single, joined}
 use Rattle.journeys.proofs.SketchLaws.{entry_at}
-use Rattle.label_sets.specs.declared.Moment.TheVariants.{Leaving}
 use Rattle.label_sets.specs.SeekLaws.{dec_past}
-use Rattle.asks.specs.declared.Found.{Found}
-use Rattle.asks.specs.declared.Found.TheVariants as found
 use Rattle.asks.specs.Found.{FoundIn, Plus, taken}
 use Rattle.asks.proofs.FoundLaws.{taken-found, found_same}
-use Rattle.asks.specs.Candidates.{PastPartner, PartnerAt, OutCandidate, own, met, FromOuts, FromIns, Candidate, PartnersFrom}
+use Rattle.asks.specs.Candidates.{leaving_then, PastPartner, PartnerAt, OutCandidate, own, met, FromOuts, FromIns, Candidate, PartnersFrom}
+use Rattle.asks.specs.declared.Journey.{Journey}
 
 module _ {T : Tables} (G : GoodTables T) {u v : ℕ} (ou : u < T.stops) (ov : v < T.stops) where
   -- candidates are sketches
@@ -40,7 +38,7 @@ module _ {T : Tables} (G : GoodTables T) {u v : ℕ} (ou : u < T.stops) (ov : v 
         where
           late : PastPartner T k m → T.arr k ≤ T.dep m
           late (inl x) = absurd (omega arith)
-          late (inr x) = x.1
+          late (inr x) = omega (arith, x.1)
   cand_sketch d a (inr f) =
       single (T.pivot f.label)
       (f.label, of_in (record { owner = ov; low = f.low; high = f.high; hub = f.hub; dep = f.dep; arr = f.arr; pivot = refl }))
@@ -50,7 +48,7 @@ module _ {T : Tables} (G : GoodTables T) {u v : ℕ} (ou : u < T.stops) (ov : v 
   sketch_cand d a (single p (k, of_out x)) = itself (inl (record { label = k; low = x.low; high = x.high; is = own x.hub x.dep x.arr }))
   sketch_cand d a (single p (k, of_in x)) = itself (inr (record { label = k; low = x.low; high = x.high; hub = x.hub; dep = x.dep; arr = x.arr }))
   sketch_cand d a (joined h J) =
-      go (first_at (PastPartner T k) (dec_past T (T.hub k) (Leaving (T.arr k))) (T.start ins v) (T.end ins v) (omega (arith, y.low, y.high)))
+      go (first_at (PastPartner T k) (dec_past T (T.hub k) (leaving_then (T.arr k))) (T.start ins v) (T.end ins v) (omega (arith, y.low, y.high)))
     where
       k : ℕ
       k = J.first
@@ -152,11 +150,11 @@ module _ {T : Tables} (G : GoodTables T) {u v : ℕ} (ou : u < T.stops) (ov : v 
   outs_this : (i d a : ℕ) → T.start outs u ≤ i → OutCandidate T v i d a → FromOuts T u v (i + 1) d a
   outs_this i d a l q = record { label = i; low = l; high = omega arith; is = q }
 
-  pub outs_start : (c : Criterion) → FoundIn (FromOuts T u v (T.start outs u)) c found.Nothing
+  pub outs_start : (c : Criterion) → FoundIn (FromOuts T u v (T.start outs u)) c None
   outs_start c d a f = absurd (omega (arith, f.low, f.high))
 
   -- its own pair, where its hub is v
-  pub outs_own : (c : Criterion) (i : ℕ) (best : Found) → T.start outs u ≤ i → T.hub i ≡ v →
+  pub outs_own : (c : Criterion) (i : ℕ) (best : Option Journey) → T.start outs u ≤ i → T.hub i ≡ v →
       FoundIn (FromOuts T u v i) c best → FoundIn (FromOuts T u v (i + 1)) c (taken c (T.dep i) (T.arr i) best)
   outs_own c i best l e f =
       found_same (Plus (FromOuts T u v i) (T.dep i) (T.arr i)) (FromOuts T u v (i + 1)) c to back (taken c (T.dep i) (T.arr i) best)
@@ -170,7 +168,7 @@ module _ {T : Tables} (G : GoodTables T) {u v : ℕ} (ou : u < T.stops) (ov : v 
       back d a q = elim (outs_more i d a q) [ inl x ↦ inl x | inr x ↦ inr (own_only i d a e x) ]
 
   -- its partner's arrival
-  pub outs_met : (c : Criterion) (i m : ℕ) (best : Found) → T.start outs u ≤ i → T.hub i ≢ v → PartnerAt T v i m → m < T.end ins v →
+  pub outs_met : (c : Criterion) (i m : ℕ) (best : Option Journey) → T.start outs u ≤ i → T.hub i ≢ v → PartnerAt T v i m → m < T.end ins v →
       T.hub m ≡ T.hub i → FoundIn (FromOuts T u v i) c best → FoundIn (FromOuts T u v (i + 1)) c (taken c (T.dep i) (T.arr m) best)
   outs_met c i m best l n F lt e f =
       found_same (Plus (FromOuts T u v i) (T.dep i) (T.arr m)) (FromOuts T u v (i + 1)) c to back (taken c (T.dep i) (T.arr m) best)
@@ -184,7 +182,7 @@ module _ {T : Tables} (G : GoodTables T) {u v : ℕ} (ou : u < T.stops) (ov : v 
       back d a q = elim (outs_more i d a q) [ inl x ↦ inl x | inr x ↦ inr (let s = met_only i m d a n F x in (s.2, s.3)) ]
 
   -- nothing, where it has no partner
-  pub outs_none : (c : Criterion) (i m : ℕ) (best : Found) → T.hub i ≢ v → PartnerAt T v i m → (m < T.end ins v → T.hub m ≢ T.hub i) →
+  pub outs_none : (c : Criterion) (i m : ℕ) (best : Option Journey) → T.hub i ≢ v → PartnerAt T v i m → (m < T.end ins v → T.hub m ≢ T.hub i) →
       FoundIn (FromOuts T u v i) c best → FoundIn (FromOuts T u v (i + 1)) c best
   outs_none c i m best n F off f = found_same (FromOuts T u v i) (FromOuts T u v (i + 1)) c (outs_less i) back best f
     where
@@ -192,7 +190,7 @@ module _ {T : Tables} (G : GoodTables T) {u v : ℕ} (ou : u < T.stops) (ov : v 
       back d a q = elim (outs_more i d a q) [ inl x ↦ x | inr x ↦ (let s = met_only i m d a n F x in absurd (off s.0 s.1)) ]
 
   -- then over the in-labels, from where no hub u was passed
-  pub ins_start : (c : Criterion) (j : ℕ) (best : Found) → PartnersFrom T u v (T.end outs u) j →
+  pub ins_start : (c : Criterion) (j : ℕ) (best : Option Journey) → PartnersFrom T u v (T.end outs u) j →
       FoundIn (FromOuts T u v (T.end outs u)) c best → FoundIn (Candidate T u v j) c best
   ins_start c j best B f = found_same (FromOuts T u v (T.end outs u)) (Candidate T u v j) c (λ d a p. inl p) back best f
     where
@@ -210,7 +208,7 @@ module _ {T : Tables} (G : GoodTables T) {u v : ℕ} (ou : u < T.stops) (ov : v 
   ins_less : (m d a : ℕ) → FromIns T u v m d a → FromIns T u v (m + 1) d a
   ins_less m d a f = record { label = f.label; low = f.low; high = omega (arith, f.high); hub = f.hub; dep = f.dep; arr = f.arr }
 
-  pub ins_own : (c : Criterion) (m : ℕ) (best : Found) → T.start ins v ≤ m → T.hub m ≡ u →
+  pub ins_own : (c : Criterion) (m : ℕ) (best : Option Journey) → T.start ins v ≤ m → T.hub m ≡ u →
       FoundIn (Candidate T u v m) c best → FoundIn (Candidate T u v (m + 1)) c (taken c (T.dep m) (T.arr m) best)
   ins_own c m best l e f =
       found_same (Plus (Candidate T u v m) (T.dep m) (T.arr m)) (Candidate T u v (m + 1)) c to back (taken c (T.dep m) (T.arr m) best)
@@ -225,7 +223,7 @@ module _ {T : Tables} (G : GoodTables T) {u v : ℕ} (ou : u < T.stops) (ov : v 
       back d a (inl p) = inl (inl p)
       back d a (inr p) = elim (ins_more m d a p) [ inl x ↦ inl (inr x) | inr x ↦ inr (sym x.1, sym x.2) ]
 
-  pub ins_none : (c : Criterion) (m : ℕ) (best : Found) → T.hub m ≢ u → FoundIn (Candidate T u v m) c best → FoundIn (Candidate T u v (m + 1)) c best
+  pub ins_none : (c : Criterion) (m : ℕ) (best : Option Journey) → T.hub m ≢ u → FoundIn (Candidate T u v m) c best → FoundIn (Candidate T u v (m + 1)) c best
   ins_none c m best n f = found_same (Candidate T u v m) (Candidate T u v (m + 1)) c to back best f
     where
       to : (d a : ℕ) → Candidate T u v m d a → Candidate T u v (m + 1) d a
@@ -237,7 +235,7 @@ module _ {T : Tables} (G : GoodTables T) {u v : ℕ} (ou : u < T.stops) (ov : v 
       back d a (inr p) = elim (ins_more m d a p) [ inl x ↦ inr x | inr x ↦ absurd (n x.0) ]
 
   -- past the hub u no more single labels come
-  pub ins_past : (c : Criterion) (m : ℕ) (best : Found) → T.start ins v ≤ m → m < T.end ins v → u < T.hub m →
+  pub ins_past : (c : Criterion) (m : ℕ) (best : Option Journey) → T.start ins v ≤ m → m < T.end ins v → u < T.hub m →
       FoundIn (Candidate T u v m) c best → FoundIn (Candidate T u v (T.end ins v)) c best
   ins_past c m best l h g f = found_same (Candidate T u v m) (Candidate T u v (T.end ins v)) c to back best f
     where

@@ -1,5 +1,5 @@
 -- The turns of the join over the labels that are read, and that what it finds is the best sketch.
-use Rattle.std.specs.Prelude.{ℕ, ◌+◌, ◌≤◌, ◌<◌, ◌≡◌, List, Bool, cond, eqb}
+use Rattle.std.specs.Prelude.{ℕ, ◌+◌, ◌≤◌, ◌<◌, ◌≡◌, List, Bool, cond, eqb, None, Option}
 use Rattle.std.proofs.Math.Path.{refl}
 use Rattle.std.proofs.Common.{sym, ap, subst, ◌∙◌, arith, le_refl, eqb-true}
 use Rattle.std.proofs.Math.Bool.{true, false}
@@ -14,13 +14,10 @@ use Rattle.journeys.specs.declared.Criterion.{Criterion}
 use Rattle.journeys.specs.Tables.{outs, ins, GoodTables}
 use Rattle.loops.specs.First.{FirstAt}
 use Rattle.loops.specs.FirstLaws.{first_extend}
-use Rattle.label_sets.specs.declared.Moment.TheVariants.{Leaving}
 use Rattle.label_sets.specs.Seek.{Past}
 use Rattle.label_sets.specs.SetsLaws.{set_owned, set_bounds}
-use Rattle.asks.specs.declared.Found.{Found}
-use Rattle.asks.specs.declared.Found.TheVariants as found
 use Rattle.asks.specs.Found.{FoundIn, taken}
-use Rattle.asks.specs.Candidates.{PartnerAt, FromOuts, Candidate}
+use Rattle.asks.specs.Candidates.{leaving_then, PartnerAt, FromOuts, Candidate}
 use Rattle.asks.proofs.CandidateLaws.{
   partners_start,
   partners_more,
@@ -34,6 +31,7 @@ use Rattle.asks.proofs.CandidateLaws.{
   ins_past,
 }
 use Rattle.asks.specs.Join.{Sets, OutTurn, Place, OutsDone, InsDone, in_turn}
+use Rattle.asks.specs.declared.Journey.{Journey}
 
 module _ {b : List ℕ} {n u v outFrom outTo inFrom inTo : ℕ} (S : Sets b n u v outFrom outTo inFrom inTo) where
   pub good : GoodTables (tables_of b)
@@ -61,8 +59,8 @@ module _ {b : List ℕ} {n u v outFrom outTo inFrom inTo k : ℕ} {l : Label} {m
     within = t.partner.high;
   }
 
-  module _ (c : Criterion) (best : Found) (f : FoundIn (FromOuts (tables_of b) u v k) c best) where
-    pub turn_own : {r : Found} → l.hub ≡ v → r ≡ taken c l.dep l.arr best → FoundIn (FromOuts (tables_of b) u v (k + 1)) c r
+  module _ (c : Criterion) (best : Option Journey) (f : FoundIn (FromOuts (tables_of b) u v k) c best) where
+    pub turn_own : {r : Option Journey} → l.hub ≡ v → r ≡ taken c l.dep l.arr best → FoundIn (FromOuts (tables_of b) u v (k + 1)) c r
     turn_own e q =
         rw (q, ← read.dep, ← read.arr)
         (outs_own (good S) (from_stop S) (to_stop S) c k best t.low (read.hub ∙ e) f)
@@ -74,7 +72,7 @@ module _ {b : List ℕ} {n u v outFrom outTo inFrom inTo k : ℕ} {l : Label} {m
 
     -- the label at the partner's place was read as p
     module _ {p : Label} (other : l.hub ≡ v → ⊥) (e : p ≡ label_at b m) where
-      pub turn_met : {r : Found} → m < inTo → p.hub ≡ l.hub → r ≡ taken c l.dep p.arr best → FoundIn (FromOuts (tables_of b) u v (k + 1)) c r
+      pub turn_met : {r : Option Journey} → m < inTo → p.hub ≡ l.hub → r ≡ taken c l.dep p.arr best → FoundIn (FromOuts (tables_of b) u v (k + 1)) c r
       turn_met lt h q =
           let x = read_as b m e in
           rw (q, ← read.dep, ← x.arr)
@@ -89,7 +87,7 @@ module _ {b : List ℕ} {n u v outFrom outTo inFrom inTo k : ℕ} {l : Label} {m
 
 -- the loop over the out-labels
 module _ {b : List ℕ} {n u v outFrom outTo inFrom inTo : ℕ} (S : Sets b n u v outFrom outTo inFrom inTo) (c : Criterion) where
-  pub outs_begin : OutsDone b u v c outFrom outTo inTo found.Nothing inFrom outFrom
+  pub outs_begin : OutsDone b u v c outFrom outTo inTo None inFrom outFrom
   outs_begin = record {
     low = le_refl outFrom;
     high = (set_bounds S.out_set).0;
@@ -101,8 +99,8 @@ module _ {b : List ℕ} {n u v outFrom outTo inFrom inTo : ℕ} (S : Sets b n u 
   }
 
   -- out-label k was read as l, and the place of its partner looked for from `next` on
-  pub out_turn_at : {best : Found} {next k : ℕ} {l : Label} {m : ℕ} → OutsDone b u v c outFrom outTo inTo best next k → k < outTo →
-      l ≡ label_at b k → FirstAt (Past (tables_of b) l.hub (Leaving l.arr)) next inTo m → OutTurn b u outTo inFrom inTo k l m
+  pub out_turn_at : {best : Option Journey} {next k : ℕ} {l : Label} {m : ℕ} → OutsDone b u v c outFrom outTo inTo best next k → k < outTo →
+      l ≡ label_at b k → FirstAt (Past (tables_of b) l.hub (leaving_then l.arr)) next inTo m → OutTurn b u outTo inFrom inTo k l m
   out_turn_at {k = k} O lt e F =
       let R = read_as b k e in
       record {
@@ -112,17 +110,17 @@ module _ {b : List ℕ} {n u v outFrom outTo inFrom inTo : ℕ} (S : Sets b n u 
         partner = first_extend (rw (← R.hub, ← R.arr, ← S.in_set.start) (O.place.behind.passed k (le_refl k) (omega (arith, S.out_set.end)))) F;
       }
 
-  pub outs_again : {best best' : Found} {next k : ℕ} {l : Label} {m : ℕ} → OutsDone b u v c outFrom outTo inTo best next k →
+  pub outs_again : {best best' : Option Journey} {next k : ℕ} {l : Label} {m : ℕ} → OutsDone b u v c outFrom outTo inTo best next k →
       OutTurn b u outTo inFrom inTo k l m → FoundIn (FromOuts (tables_of b) u v (k + 1)) c best' →
       OutsDone b u v c outFrom outTo inTo best' m (k + 1)
   outs_again O t f = record { low = omega (arith, O.low); high = omega (arith, t.high); found = f; place = turn_place S t O.place }
 
-  pub outs_done : {best : Found} {next k : ℕ} → OutsDone b u v c outFrom outTo inTo best next k → outTo ≤ k →
+  pub outs_done : {best : Option Journey} {next k : ℕ} → OutsDone b u v c outFrom outTo inTo best next k → outTo ≤ k →
       OutsDone b u v c outFrom outTo inTo best next outTo
   outs_done {best} {next} {k} O le = let e : k ≡ outTo = omega (arith, O.high) in subst (OutsDone b u v c outFrom outTo inTo best next) e O
 
   -- then the in-labels
-  pub ins_begin : {best : Found} {next : ℕ} → OutsDone b u v c outFrom outTo inTo best next outTo → InsDone b u v c inTo best next
+  pub ins_begin : {best : Option Journey} {next : ℕ} → OutsDone b u v c outFrom outTo inTo best next outTo → InsDone b u v c inTo best next
   ins_begin {best} {next} O = record {
     low = O.place.behind.low;
     high = O.place.within;
@@ -130,8 +128,8 @@ module _ {b : List ℕ} {n u v outFrom outTo inFrom inTo : ℕ} (S : Sets b n u 
   }
 
   -- in-label k was read as l
-  module _ {best : Found} {k : ℕ} {l : Label} (I : InsDone b u v c inTo best k) (lt : k < inTo) (e : l ≡ label_at b k) where
-    pub ins_again : {best' : Found} → best' ≡ in_turn c u l best → InsDone b u v c inTo best' (k + 1)
+  module _ {best : Option Journey} {k : ℕ} {l : Label} (I : InsDone b u v c inTo best k) (lt : k < inTo) (e : l ≡ label_at b k) where
+    pub ins_again : {best' : Option Journey} → best' ≡ in_turn c u l best → InsDone b u v c inTo best' (k + 1)
     unfolding in_turn
     ins_again q = record {
       low = omega (arith, I.low);
@@ -154,7 +152,7 @@ module _ {b : List ℕ} {n u v outFrom outTo inFrom inTo : ℕ} (S : Sets b n u 
           (ins_past (good S) (from_stop S) (to_stop S) c k best I.low (omega (arith, S.in_set.end)) (omega (arith, (read_as b k e).hub)) I.found);
     }
 
-  pub ins_done : {best : Found} {k : ℕ} → InsDone b u v c inTo best k → inTo ≤ k → InsDone b u v c inTo best inTo
+  pub ins_done : {best : Option Journey} {k : ℕ} → InsDone b u v c inTo best k → inTo ≤ k → InsDone b u v c inTo best inTo
   ins_done {best} {k} I le = let e : k ≡ inTo = omega (arith, I.high) in subst (InsDone b u v c inTo best) e I
 
 -- the bounds of the two sets, as they are read

@@ -2,12 +2,17 @@
 use Rattle.std.specs.Prelude.{ℕ, ◌≤◌, ◌<◌, ◌≡◌, ◌⊎◌}
 use Rattle.loops.specs.First.{Passed, FirstAt}
 use Rattle.journeys.specs.Tables.{Tables, outs, ins}
+use Rattle.label_sets.specs.declared.Moment.{Moment}
 use Rattle.label_sets.specs.declared.Moment.TheVariants.{Leaving}
 use Rattle.label_sets.specs.Seek.{Past}
 
+-- a partner leaves at or after the minute at which its out-label arrives
+abbrev pub leaving_then : ℕ → Moment
+leaving_then arr = Leaving arr
+
 -- in-label m comes at or after the place of out-label k's partner, which has the same hub and leaves at or after k arrives
 abbrev pub PastPartner : Tables → ℕ → ℕ → Type 0
-PastPartner T k = Past T (T.hub k) (Leaving (T.arr k))
+PastPartner T k = Past T (T.hub k) (leaving_then (T.arr k))
 
 -- and that place is m, among the in-labels of v
 abbrev pub PartnerAt : Tables → ℕ → ℕ → ℕ → Type 0

@@ -1,14 +1,15 @@
 -- Which asks are permitted, in the demands' words: "every ask between two different stops, at permitted times"; and which are refused, and why.
-use Rattle.std.specs.Prelude.{ℕ, ◌≤◌, ◌<◌, ◌≡◌, ◌⊎◌}
+use Rattle.std.specs.Prelude.{ℕ, ◌≤◌, ◌<◌, ◌≡◌, ◌⊎◌, Err, Ok, Result}
 use Rattle.kinds.specs.Limits.{last_minute}
-use Rattle.kinds.specs.Refusals.{stop_high, same_stop, minute_high, minutes_crossed, refusal}
+use Rattle.kinds.specs.Refusals.{refusal}
 use Rattle.journeys.specs.declared.Criterion.{Criterion}
 use Rattle.journeys.specs.declared.Criterion.TheVariants.{Early, Late, Short}
 use Rattle.asks.specs.declared.Wanted.{Wanted}
 use Rattle.asks.specs.declared.Wanted.TheVariants as wanted
-use Rattle.asks.specs.declared.AskRead.{AskRead}
-use Rattle.asks.specs.declared.AskRead.TheVariants as ask
 use Rattle.asks.specs.Asks.{TwoStops}
+use Rattle.kinds.specs.declared.Reason.TheVariants as reason
+use Rattle.asks.specs.declared.Asked.{Asked}
+use Rattle.kinds.specs.declared.Refusal.{Refusal}
 
 -- early(u, v, t), late(u, v, t), short(u, v, t, t2): the minutes are those of the ask
 abbrev pub criterion_of : Wanted → Criterion
@@ -41,9 +42,9 @@ pub record Permitted (n from to : ℕ) (w : Wanted) : Type 0 where
   pub in_order : ¬ (Crossed w)
 
 -- What becomes of an ask: a permitted one is that of its own stops and minutes; "12, 13, 14, 15" are given exactly for these reasons, in this order.
-pub data AskIs (n from to : ℕ) (w : Wanted) (x : AskRead) : Type 0 where
-  permitted : Permitted n from to w → x ≡ ask.Good (record { from = from; to = to; criterion = criterion_of w }) → AskIs n from to w x
-  no_stop : (n ≤ from) ⊎ (n ≤ to) → x ≡ ask.No (refusal stop_high 0) → AskIs n from to w x
-  equal_stops : from < n → from ≡ to → x ≡ ask.No (refusal same_stop 0) → AskIs n from to w x
-  beyond_range : TwoStops n from to → OutOfRange w → x ≡ ask.No (refusal minute_high 0) → AskIs n from to w x
-  crossed : TwoStops n from to → InRange w → Crossed w → x ≡ ask.No (refusal minutes_crossed 0) → AskIs n from to w x
+pub data AskIs (n from to : ℕ) (w : Wanted) (x : Result Asked Refusal) : Type 0 where
+  permitted : Permitted n from to w → x ≡ Ok (record { from = from; to = to; criterion = criterion_of w }) → AskIs n from to w x
+  no_stop : (n ≤ from) ⊎ (n ≤ to) → x ≡ Err (refusal reason.StopHigh 0) → AskIs n from to w x
+  equal_stops : from < n → from ≡ to → x ≡ Err (refusal reason.SameStop 0) → AskIs n from to w x
+  beyond_range : TwoStops n from to → OutOfRange w → x ≡ Err (refusal reason.MinuteHigh 0) → AskIs n from to w x
+  crossed : TwoStops n from to → InRange w → Crossed w → x ≡ Err (refusal reason.MinutesCrossed 0) → AskIs n from to w x

@@ -6,9 +6,8 @@ ghost use Rattle.tables.specs.Judged.{judged_tables};
 ghost use Rattle.timetable.specs.Numbers.{judged_of};
 ghost use Rattle.both.specs.Both.{work_room, judged_both};
 
-use kinds::{Label, Refusal};
-use tables::TablesRead;
-use timetable::{Given, Judged};
+use kinds::{Label, Reason, Refusal};
+use timetable::Given;
 
 // Working room, in numbers of two bytes: the starts of the sets, and behind them a number for each label. The rides by departure, which the
 // ride list has there instead, need less.
@@ -22,26 +21,13 @@ pub fn room() -> usize
 }
 
 // 9, 10 and 11, then the timetable's 8, 17, 5, 6 and 7, then 21; or the stop count of both.
-pub fn judge(tables: &[u8], given: Given, runs: &[u32], lent: usize) -> TablesRead
+pub fn judge(tables: &[u8], given: Given, runs: &[u32], lent: usize) -> Result<u16, Refusal>
     ensures { result ≡ judged_both (judged_tables tables.now) (judged_of given runs.now lent work_room) given.stops }
 {
-    let read = tables::judge(tables);
-    match read {
-        TablesRead::No(x) => {
-            return TablesRead::No(x);
-        }
-        TablesRead::Good(n) => {
-            let judged = timetable::judge(given, runs, lent, ROOM);
-            match judged {
-                Judged::No(x) => {
-                    return TablesRead::No(x);
-                }
-                Judged::Good => {}
-            }
-            if (n as u32) != given.stops {
-                return TablesRead::No(Refusal::new(Refusal::STOPS_DIFFER, 0));
-            }
-            TablesRead::Good(n)
-        }
+    let n = tables::judge(tables)?;
+    timetable::judge(given, runs, lent, ROOM)?;
+    if (n as u32) != given.stops {
+        return Err(Refusal::new(Reason::StopsDiffer, 0));
     }
+    Ok(n)
 }

@@ -1,8 +1,9 @@
 -- Laws of the build: from all labels counted to the room that they need, from all labels written to the rule's file; and one result at most.
-use Rattle.std.specs.Prelude.{ℕ, zero, suc, ◌-◌, min, ◌≤◌, ◌<◌, ◌≡◌, List, ◌++◌, length, get_or, replicate, drop}
+use Rattle.std.specs.Prelude.{ℕ, ◌-◌, min, ◌≤◌, ◌<◌, ◌≡◌, List, ◌++◌, length, get_or, replicate, drop, Err, Ok, Result}
 use Rattle.std.proofs.Common.{sym, ap, ap₂, ◌∙◌, arith}
 use Rattle.std.proofs.Math.Decide.{dec_lt}
 use Rattle.std.proofs.Math.ListN.{get_or-append, get_or-eq_default}
+use Rattle.std.proofs.lemmas.List.{drop-replicate}
 use Rattle.kinds.specs.Limits.{most_stops, most_labels}
 use Rattle.journeys.specs.Service.{Service, GoodService}
 use Rattle.journeys.proofs.RuleLaws.{by_rule_same}
@@ -18,9 +19,9 @@ use Rattle.builder.specs.Contents.{Sized}
 use Rattle.builder.specs.Writing.{WrittenTo}
 use Rattle.builder.specs.ByRuleLaws.{rule_file, rule_by}
 use Rattle.timetable.specs.declared.Given.{Given}
-use Rattle.builder.specs.Build.{RuleFile, BuiltOf, over, short, built, BuildOf, refused, good}
-use Rattle.builder.specs.declared.BuildAnswer.{BuildAnswer}
-use Rattle.builder.specs.declared.BuildAnswer.TheVariants.{Built, No}
+use Rattle.builder.specs.Build.{RuleFile, BuiltOf, over, short, built, BuildOf, refused, good, success}
+use Rattle.builder.specs.declared.Built.{Built}
+use Rattle.kinds.specs.declared.Refusal.{Refusal}
 
 -- counts that agree give the same sets
 sets_same : {c d : ℕ → ℕ → ℕ} {n : ℕ} {sets : List ℕ} → ((u v : ℕ) → u < n → v < n → c u v ≡ d u v) → SetsTo c n n sets → SetsTo d n n sets
@@ -51,24 +52,22 @@ written_file {S} {k} {R} {b} G few some w = record {
 
 -- what is left of zeros
 pub drop-zeros : (k n : ℕ) → ◌≡◌ {A = List ℕ} (drop k (replicate n 0)) (replicate (n - k) 0)
-drop-zeros zero n =
-    let e : n ≡ n - 0 = omega arith in
-    ap (λ (m : ℕ). replicate m 0) e
-drop-zeros (suc k) zero =
-    let e : 0 ≡ 0 - suc k = omega arith in
-    ap (λ (m : ℕ). replicate m 0) e
-drop-zeros (suc k) (suc n) =
-    let e : n - k ≡ suc n - suc k = omega arith in
-    drop-zeros k n ∙ ap (λ (m : ℕ). replicate m 0) e
+drop-zeros k n = drop-replicate k n 0
+
+-- the length that an answer tells
+told : Result Built Refusal → ℕ
+told (Ok b) = b.length
+told (Err r) = 0
 
 -- what was built is within what is lent
 module _ {lent n k : ℕ} {tables : List ℕ} where
-  built_in : {S : Service} → BuiltOf S lent (Built n k) tables → n ≤ lent
+  built_in : {S : Service} → BuiltOf S lent (success n k) tables → n ≤ lent
+  unfolding told
   built_in (over j R h p q) = let z : ◌≡◌ {A = ℕ} 0 1 = cc in absurd (omega arith)
   built_in (short j R h l p q) = let z : ◌≡◌ {A = ℕ} 0 1 = cc in absurd (omega arith)
-  built_in {S} (built j f R h l g m p q) = let e : n ≡ place_of S.stops j = cc in omega arith
+  built_in {S} (built j f R h l g m p q) = let e : n ≡ place_of S.stops j = ap told p in omega arith
 
-  pub built_within : {given : Given} {runs : List ℕ} {work : ℕ} → BuildOf given runs work lent (Built n k) tables → n ≤ lent
+  pub built_within : {given : Given} {runs : List ℕ} {work : ℕ} → BuildOf given runs work lent (success n k) tables → n ≤ lent
   built_within (refused r e p q) = let z : ◌≡◌ {A = ℕ} 0 1 = cc in absurd (omega arith)
   built_within (good e b) = built_in b
 
@@ -89,7 +88,8 @@ module _ {S : Service} where
   file_one : (b c : List ℕ) → AreBytes b → AreBytes c → RuleFile S b → RuleFile S c → b ≡ c
   file_one b c ab ac x y = one_file b c S.stops ab ac x.good y.good (same_labels x y)
 
-  pub built_one : {lent : ℕ} {a a' : BuildAnswer} {t t' : List ℕ} → AreBytes t → AreBytes t' → BuiltOf S lent a t → BuiltOf S lent a' t' → (a ≡ a') × (t ≡ t')
+  pub built_one : {lent : ℕ} {a a' : Result Built Refusal} {t t' : List ℕ} → AreBytes t → AreBytes t' → BuiltOf S lent a t → BuiltOf S lent a' t' →
+      (a ≡ a') × (t ≡ t')
   built_one x y (over k R h p q) (over k' R' h' p' q') = (p ∙ sym p', q ∙ sym q')
   built_one x y (over k R h p q) (short k' R' h' l' p' q') = absurd (omega (arith, rule_count_one R R'))
   built_one x y (over k R h p q) (built k' f' R' h' l' g' n' p' q') = absurd (omega (arith, rule_count_one R R'))
@@ -101,15 +101,15 @@ module _ {S : Service} where
   built_one {lent} x y (built k f R h l g n p q) (built k' f' R' h' l' g' n' p' q') =
       let e = rule_count_one R R' in
       let z = file_one f f' (part_bytes f _ x q) (part_bytes f' _ y q') g g' in
-      (p ∙ ap (λ m. Built (place_of S.stops m) m) e ∙ sym p', q ∙ ap₂ (λ (b : List ℕ) (m : ℕ). b ++ replicate (lent - place_of S.stops m) 0) z e ∙ sym q')
+      (p ∙ ap (λ m. success (place_of S.stops m) m) e ∙ sym p', q ∙ ap₂ (λ (b : List ℕ) (m : ℕ). b ++ replicate (lent - place_of S.stops m) 0) z e ∙ sym q')
 
 -- no second answer, and no second bytes, meet the contract
-pub build_one : {given : Given} {runs : List ℕ} {work lent : ℕ} {a a' : BuildAnswer} {t t' : List ℕ} → AreBytes t → AreBytes t' →
+pub build_one : {given : Given} {runs : List ℕ} {work lent : ℕ} {a a' : Result Built Refusal} {t t' : List ℕ} → AreBytes t → AreBytes t' →
     BuildOf given runs work lent a t → BuildOf given runs work lent a' t' → (a ≡ a') × (t ≡ t')
 build_one x y (refused r e p q) (refused r' e' p' q') =
     let z = sym e ∙ e' in
     let same : r ≡ r' = cc in
-    (p ∙ ap No same ∙ sym p', q ∙ sym q')
+    (p ∙ ap Err same ∙ sym p', q ∙ sym q')
 build_one x y (refused r e p q) (good e' b) = let z = sym e ∙ e' in let w : ◌≡◌ {A = ℕ} 0 1 = cc in absurd (omega arith)
 build_one x y (good e b) (refused r' e' p' q') = let z = sym e ∙ e' in let w : ◌≡◌ {A = ℕ} 0 1 = cc in absurd (omega arith)
 build_one x y (good e b) (good e' b') = built_one x y b b'

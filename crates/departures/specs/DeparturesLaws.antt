@@ -1,15 +1,18 @@
 -- Laws of the rides by departure: one slot more, the walk along the slots of a bucket, and that the index is one.
-use Rattle.std.specs.Prelude.{ℕ, ◌+◌, ◌-◌, ◌≤◌, ◌<◌, ◌≡◌, List, Bool, true, false, length, get_or, set}
+use Rattle.std.specs.Prelude.{ℕ, zero, suc, ◌+◌, ◌-◌, ◌≤◌, ◌<◌, ◌≡◌, List, ◌++◌, Bool, true, false, length, replicate, take, drop, get_or, set}
 use Rattle.std.proofs.Math.Path.{refl}
-use Rattle.std.proofs.Common.{sym, ap, subst, ◌∙◌, arith, length-set, get_or-set_same, get_or-set_other, ext_get_or}
+use Rattle.std.proofs.Common.{sym, ap, subst, ◌∙◌, add-one, arith, length-set, length-take-le, get_or-set_same, get_or-set_other, ext_get_or}
 use Rattle.std.proofs.Math.Decide.{ℕ_discrete, dec_lt}
 use Rattle.loops.specs.Filled.{filled}
-use Rattle.loops.specs.FilledLaws.{length-filled, filled_at, filled_beyond}
+use Rattle.loops.specs.FilledLaws.{filled_none, filled_more, length-filled, filled_at, filled_beyond}
+use Rattle.loops.specs.Made.{Made}
+use Rattle.loops.specs.MadeLaws.{made_none, made_more}
 use Rattle.loops.specs.First.{Passed, FirstAt}
 use Rattle.loops.specs.FirstLaws.{passed_none, passed_more, first_here, first_end, first_one, first_extend}
 use Rattle.loops.specs.Tells.{Tells}
 use Rattle.loops.specs.TellsLaws.{told_true, told_false}
 use Rattle.journeys.specs.Service.{Service, RideAt}
+use Rattle.timetable.proofs.SlotsLaws.{service_slots, slots_few, read_ride, read_idle}
 use Rattle.departures.specs.Departures.{buckets, bucket_of, bucket_at, Falls, Indexed, SameFrom}
 use Rattle.departures.specs.Turns.{with_slot, IndexedFrom, WalkedTo}
 
@@ -42,6 +45,23 @@ module _ (S : Service) (before : List ℕ) {l : List ℕ} (e : l ≡ filled (λ 
 pub same_then : {place : ℕ} {a b c : List ℕ} → SameFrom place a b → SameFrom place b c → SameFrom place a c
 same_then f g = record { long = g.long ∙ f.long; beyond = λ p le. g.beyond p le ∙ f.beyond p le }
 
+-- the first k numbers made v at once are made v one by one
+made_filled : (v k : ℕ) (l : List ℕ) → k ≤ length l → Made v l (filled (λ _. v) k l) k
+made_filled v zero l le = rw filled_none (made_none v l)
+made_filled v (suc k) l le = rw (sym (add-one k)) (rw filled_more (made_more (made_filled v k l (omega arith)) le))
+
+front_filled : (v k : ℕ) (l : List ℕ) {front : List ℕ} → k ≤ length l → front ≡ replicate k v → front ++ drop k l ≡ filled (λ _. v) k l
+front_filled v k l le e = ap (λ f. f ++ drop k l) e ∙ sym (made_filled v k l le).is
+
+-- the buckets filled
+pub index_begin : (S : Service) (before : List ℕ) {front : List ℕ} {n : ℕ} → n ≡ S.slots → buckets ≤ length before →
+    front ≡ replicate (length (take buckets before)) n → IndexedFrom S n before (front ++ drop buckets before)
+index_begin S before {front} {n} e le f =
+    let k : length (take buckets before) ≡ buckets = length-take-le buckets before le in
+    let g = front_filled n buckets before le (f ∙ ap (λ (m : ℕ). replicate m n) k) ∙ ap (λ (m : ℕ). filled (λ _. m) buckets before) e in
+    let I = index_none S before g le in
+    rw e (record { within = I.within; first = I.first; next = I.next; idle = I.idle; kept = same_none S before g })
+
 -- what one slot more changes, if it is in force, and if not
 module _ (S : Service) (k : ℕ) (l : List ℕ) where
   pub with_ride : S.in_force k ≡ true → with_slot S k l ≡ set (set l (buckets + k) (get_or l (bucket_at S k) 0)) (bucket_at S k) k
@@ -51,6 +71,9 @@ module _ (S : Service) (k : ℕ) (l : List ℕ) where
   pub with_none : S.in_force k ≡ false → with_slot S k l ≡ set l (buckets + k) S.slots
   unfolding with_slot
   with_none f = rw f refl
+
+-- what `add` makes of the slot that it reads
+pub ruleset slot_added = (service_slots, slots_few, read_ride, read_idle, with_ride, with_none)
 
 -- one slot more that is in force: at its bucket stands the slot, at its own place what stood at its bucket; all else is as it was
 module _ (S : Service) (k : ℕ) {before l : List ℕ} (I : IndexedFrom S (k + 1) before l) (long : buckets + S.slots ≤ length before) where
@@ -103,7 +126,7 @@ module _ (S : Service) (k : ℕ) {before l : List ℕ} (I : IndexedFrom S (k + 1
 
     idle_more : (i : ℕ) → k ≤ i → i < S.slots → S.in_force i ≡ false → get_or (with_slot S k l) (buckets + i) 0 ≡ S.slots
     idle_more i ge lt g = elim (ℕ_discrete i k) [
-      | yes e ↦ absurd (let z = sym f ∙ ap S.in_force (sym e) ∙ g in let y : ◌≡◌ {A = ℕ} 0 1 = cc in omega arith)
+      | yes e ↦ absurd (let z = sym f ∙ ap S.in_force (sym e) ∙ g in cc)
       | no n ↦ other_place (buckets + i) (λ e. n (omega arith)) (λ e. omega (arith, low)) ∙ I.idle i (omega arith) lt g
     ]
 
@@ -131,9 +154,9 @@ module _ (S : Service) (k : ℕ) {before l : List ℕ} (I : IndexedFrom S (k + 1
     none_more = record {
       within = omega (arith, I.within);
       first = λ h lt. rw (elsewhere h (λ e. omega arith))
-          (first_extend (passed_more passed_none (λ x. let z = sym f ∙ x.forced in let y : ◌≡◌ {A = ℕ} 0 1 = cc in omega arith)) (I.first h lt));
+          (first_extend (passed_more passed_none (λ x. let z = sym f ∙ x.forced in cc)) (I.first h lt));
       next = λ i ge lt g. elim (ℕ_discrete i k) [
-        | yes e ↦ absurd (let z = sym f ∙ ap S.in_force (sym e) ∙ g in let y : ◌≡◌ {A = ℕ} 0 1 = cc in omega arith)
+        | yes e ↦ absurd (let z = sym f ∙ ap S.in_force (sym e) ∙ g in cc)
         | no n ↦ rw (elsewhere (buckets + i) (λ e. n (omega arith))) (I.next i (omega arith) lt g)
       ];
       idle = λ i ge lt g. elim (ℕ_discrete i k) [

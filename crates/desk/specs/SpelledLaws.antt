@@ -1,6 +1,6 @@
 -- Laws of what is spelled out: where the labels of a stop begin and end, that a number names one label, and that what a refusal names can be spelled out.
-use Rattle.std.specs.Prelude.{ℕ, ◌+◌, ◌*◌, ◌≤◌, ◌<◌, ◌≡◌, refl, List, ◌++◌, Bool, true, false, ◌⊎◌}
-use Rattle.std.proofs.Common.{sym, ap, subst, ◌∙◌, append-nil, inl, inr, arith, lt-ltb, le-ltb}
+use Rattle.std.specs.Prelude.{ℕ, ◌+◌, ◌*◌, ◌≤◌, ◌<◌, ◌≡◌, refl, List, ◌++◌, Bool, true, false, ◌⊎◌, ltb}
+use Rattle.std.proofs.Common.{sym, ap, subst, ◌∙◌, append-nil, inl, inr, arith, ltb-true, ltb-false, lt-ltb, le-ltb}
 use Rattle.std.proofs.Math.Option.{Option, some}
 use Rattle.std.proofs.Math.Decide.{ℕ_discrete}
 use Rattle.kinds.specs.Limits.{no_pivot, runs_room}
@@ -42,6 +42,17 @@ module _ {b : List ℕ} {n : ℕ} (g : Room b n) where
   pub label_in : (s k : ℕ) → s < n → (tables_of b).end outs s ≤ k → k < (tables_of b).end ins s →
       Entry (tables_of b) ins k s (label_at b k).hub (label_at b k).dep (label_at b k).arr (pivot_of (label_at b k).pivot)
   label_in s k lt low high = room_entry g ins s k lt (omega (arith, ins_follow b s)) high
+
+  -- in which of its owner's two sets: it is an out-label where it stands before the end of those
+  pub label_side : (s k : ℕ) → s < n → (tables_of b).start outs s ≤ k → k < (tables_of b).end ins s →
+      Entry (tables_of b) (side_of (ltb k ((tables_of b).end outs s))) k s (label_at b k).hub (label_at b k).dep (label_at b k).arr
+      (pivot_of (label_at b k).pivot)
+  label_side s k lt low high = go (ltb k ((tables_of b).end outs s)) refl
+    where
+      go : (c : Bool) → ltb k ((tables_of b).end outs s) ≡ c →
+          Entry (tables_of b) (side_of c) k s (label_at b k).hub (label_at b k).dep (label_at b k).arr (pivot_of (label_at b k).pivot)
+      go true h = label_out s k lt low (ltb-true k ((tables_of b).end outs s) h)
+      go false h = label_in s k lt (ltb-false k ((tables_of b).end outs s) h) high
 
 no_side : outs ≡ ins → ⊥
 no_side e = let z : ◌≡◌ {A = ℕ} 0 1 = cc in omega arith

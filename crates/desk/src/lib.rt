@@ -18,27 +18,18 @@ ghost use Rattle.desk.specs.Spelled.{RunNamed, Spellable};
 ghost use Rattle.both.specs.Both.{work_room};
 ghost use Rattle.desk.specs.Told.{told_room, before, AdmitOf, AdmitShort, CheckTold, BuildTold, MadeShort};
 
-use builder::{BuildAnswer, Work};
-use kinds::{Label, Refusal, Run, Stop, Text};
+use builder::Work;
+use kinds::{Code, Label, Reason, Refusal, Run, Stop, Text};
 use lookup::code_at;
-use reader::{Counts, ReadAnswer};
-use report::{Change, Pivot};
-use tables::TablesRead;
+use reader::Counts;
+use tables::File;
 use timetable::Given;
-use verdict::Verdict;
 
-// The tables are accepted, and the timetable has so many stops and runs; or so many bytes tell why not.
+// So many bytes of tables were made, and so many tell of them.
 #[derive(Clone, Copy)]
-pub enum Admitted {
-    Yes(Counts),
-    No(usize),
-}
-
-// So many bytes of tables were made, and so many tell of them; or so many tell why not.
-#[derive(Clone, Copy)]
-pub enum Made {
-    Tables(usize, usize),
-    No(usize),
+pub struct Made {
+    pub tables: usize,
+    pub told: usize,
 }
 
 // Room for all that is told of a check or a build.
@@ -80,76 +71,77 @@ struct Ends {
 }
 
 // The stop that owns label k: the first whose labels end behind it.
-fn owner_of(tables: &[u8], n: u16, k: usize) -> u16
-    requires room { Room tables.now n }
-    requires k_bound { k < labels_of tables.now }
-    ensures { (result < n) × ((tables_of tables.now).start outs result ≤ k) × (k < (tables_of tables.now).end ins result) }
+fn owner_of(file: File<'_>, k: usize) -> u16
+    requires { k < labels_of file.bytes.now }
+    ensures { (result < file.entry.stops) × ((tables_of file.entry.bytes.now).start outs result ≤ k) ×
+        (k < (tables_of file.entry.bytes.now).end ins result) }
 {
-    let mut s = 0;
-    while s < n {
-        let ins = tables::ins_of(tables, n, s);
+    for s in 0..file.stops {
+        let ins = file.ins_of(s);
         if k < ins.end {
             return s;
         }
-        s += 1;
     }
-    s
+    file.stops
 }
 
 // Whose label k is; it need not be good.
-fn set_of(tables: &[u8], n: u16, k: usize) -> Whose
-    requires room { Room tables.now n }
-    requires k_bound { k < labels_of tables.now }
-    ensures { Entry (tables_of tables.now) (side_of result.outgoing) k result.owner (label_at tables.now k).hub
-        (label_at tables.now k).dep
-        (label_at tables.now k).arr (pivot_of (label_at tables.now k).pivot) }
+fn set_of(file: File<'_>, k: usize) -> Whose
+    requires { k < labels_of file.bytes.now }
+    ensures { Entry (tables_of file.entry.bytes.now) (side_of result.outgoing) k result.owner (label_at file.entry.bytes.now k).hub
+        (label_at file.entry.bytes.now k).dep
+        (label_at file.entry.bytes.now k).arr (pivot_of (label_at file.entry.bytes.now k).pivot) }
 {
-    let owner = owner_of(tables, n, k);
-    let outs = tables::outs_of(tables, n, owner);
-    if k < outs.end {
-        return Whose {
-            outgoing: true,
-            owner,
-        };
-    }
+    let owner = owner_of(file, k);
+    let outs = file.outs_of(owner);
     Whose {
-        outgoing: false,
+        outgoing: k < outs.end,
         owner,
     }
 }
 
 // Label k is a label from one stop to another.
-fn ends_of(tables: &[u8], n: u16, k: usize) -> Ends
-    requires room { Room tables.now n }
-    requires k_bound { k < labels_of tables.now }
-    ensures { LabelAt (tables_of tables.now) k result.from result.to (label_at tables.now k).dep (label_at tables.now k).arr
-        (pivot_of (label_at tables.now k).pivot) }
+fn ends_of(file: File<'_>, k: usize) -> Ends
+    requires { k < labels_of file.bytes.now }
+    ensures { LabelAt (tables_of file.entry.bytes.now) k result.from result.to (label_at file.entry.bytes.now k).dep
+        (label_at file.entry.bytes.now k).arr
+        (pivot_of (label_at file.entry.bytes.now k).pivot) }
 {
-    let l = tables::label_at(tables, n, k);
-    let whose = set_of(tables, n, k);
+    let l = file.label_at(k);
+    let whose = set_of(file, k);
     if whose.outgoing {
-        return Ends {
+        Ends {
             from: whose.owner,
             to: l.hub,
-        };
-    }
-    Ends {
-        from: l.hub,
-        to: whose.owner,
+        }
+    } else {
+        Ends {
+            from: l.hub,
+            to: whose.owner,
+        }
     }
 }
 
 // ---- What a refusal names, spelled out.
 
-// Where one changes, by a label's pivot.
-fn change_of(codes: &[u32], pivot: u16) -> Change
+// A label's pivot by its number; `None` is a label that has none.
+fn pivot_of(pivot: u16) -> Option<u32>
+    ensures { result ≡ pivot_said (pivot_of pivot) }
+{
+    if pivot == Label::NO_PIVOT {
+        None
+    } else {
+        Some(pivot as u32)
+    }
+}
+
+// Where one changes, by a label's pivot; `None` is a label with no pivot, along which nobody changes.
+fn change_of(codes: &[u32], pivot: u16) -> Option<Code>
     requires { (pivot ≡ no_pivot) ⊎ (2 * pivot + 2 ≤ length codes.now) }
     ensures { result ≡ change_at codes.now (pivot_of pivot) }
 {
-    if pivot == Label::NO_PIVOT {
-        return Change::Direct;
-    }
-    Change::At(code_at(codes, pivot as usize))
+    let w = pivot_of(pivot)?;
+    Some(code_at(codes, w as usize))
 }
 
 fn spell_label(
@@ -168,9 +160,13 @@ fn spell_label(
         Wrote out.old at xs out.new result }
     ensures upper_bound { result ≤ at + report_room }
 {
+    let file = File {
+        bytes: tables,
+        stops: n,
+    };
     let i = k as usize;
-    let ends = ends_of(tables, n, i);
-    let l = tables::label_at(tables, n, i);
+    let ends = ends_of(file, i);
+    let l = file.label_at(i);
     let from = code_at(codes, ends.from as usize);
     let to = code_at(codes, ends.to as usize);
     let change = change_of(codes, l.pivot);
@@ -185,16 +181,6 @@ fn spell_label(
         l.arr as u32,
         change,
     )
-}
-
-// A label's pivot by its number.
-fn pivot_of(pivot: u16) -> Pivot
-    ensures { result ≡ pivot_said (pivot_of pivot) }
-{
-    if pivot == Label::NO_PIVOT {
-        return Pivot::No;
-    }
-    Pivot::At(pivot as u32)
 }
 
 // A label that is not good, by its numbers; and the code of the stop that owns it, where the timetable has that stop.
@@ -214,10 +200,13 @@ fn spell_bad(
         Wrote out.old at xs out.new result }
     ensures upper_bound { result ≤ at + 2 * report_room }
 {
+    let file = File {
+        bytes: tables,
+        stops: tables::stop_count(tables),
+    };
     let i = k as usize;
-    let stops = tables::stop_count(tables);
-    let whose = set_of(tables, stops, i);
-    let l = tables::label_at(tables, stops, i);
+    let whose = set_of(file, i);
+    let l = file.label_at(i);
     let pivot = pivot_of(l.pivot);
     let a = report::entry_line(
         out,
@@ -285,17 +274,15 @@ fn spell(
         Wrote out.old at xs out.new result }
     ensures upper_bound { result ≤ at + 2 * report_room }
 {
-    if x.number == Refusal::LABEL_BAD {
-        return spell_bad(out, at, text, codes, tables, n, x.place);
+    match x.reason {
+        Reason::LabelBad => spell_bad(out, at, text, codes, tables, n, x.place),
+        Reason::Unsupported => spell_label(out, at, text, codes, tables, n, x.place),
+        Reason::Gap => {
+            let a = spell_run(out, at, text, codes, runs, x.place);
+            spell_stop(out, a, text, codes, x.stop)
+        }
+        _ => at,
     }
-    if x.number == Refusal::UNSUPPORTED {
-        return spell_label(out, at, text, codes, tables, n, x.place);
-    }
-    if x.number == Refusal::GAP {
-        let a = spell_run(out, at, text, codes, runs, x.place);
-        return spell_stop(out, a, text, codes, x.stop);
-    }
-    at
 }
 
 // ---- The check.
@@ -326,14 +313,14 @@ fn refuse_text(out: &mut [u8], tables: &[u8], x: Refusal) -> usize
     ensures wrote { Wrote out.old 0 (refusal_line (before (judged_tables tables.now) x)) out.new result }
     ensures upper_bound { result ≤ told_room }
 {
-    let judged = tables::judge(tables);
-    match judged {
-        TablesRead::No(y) => report::refusal_line(out, 0, y),
-        TablesRead::Good(_) => report::refusal_line(out, 0, x),
+    match tables::judge(tables) {
+        Err(y) => report::refusal_line(out, 0, y),
+        Ok(_) => report::refusal_line(out, 0, x),
     }
 }
 
-// The timetable text is read into the two rooms, and the tables are checked against it. A refusal is told; of accepted tables nothing is.
+// The timetable text is read into the two rooms, and the tables are checked against it. A refusal is told; of accepted tables nothing is. `Ok` has
+// how many stops and runs the timetable has; `Err` how many bytes tell why the tables are not accepted.
 pub fn admit(
     text: &[u8],
     tables: &[u8],
@@ -341,7 +328,7 @@ pub fn admit(
     codes: &mut [u32],
     work: &mut [u16],
     out: &mut [u8],
-) -> Admitted
+) -> Result<Counts, usize>
     requires { told_room ≤ length out.old }
     ensures admit_of { AdmitOf text.now tables.now (length runs.old) (length codes.old) (length work.old)
         out.old out.new result }
@@ -352,28 +339,21 @@ pub fn admit(
         (length codes.old) }
     ensures work_after { work.new ≡ zeros work.old }
 {
-    let read = reader::read(text, runs, codes);
-    match read {
-        ReadAnswer::No(x) => {
-            loops::zero_u16(work);
-            let n = refuse_text(out, tables, x);
-            Admitted::No(n)
+    let counts = match reader::read(text, runs, codes) {
+        Ok(counts) => counts,
+        Err(x) => {
+            loops::zero(work);
+            return Err(refuse_text(out, tables, x));
         }
-        ReadAnswer::Read(counts) => {
-            let given = Given {
-                stops: counts.stops,
-                runs: counts.runs,
-            };
-            let verdict = verdict::check(tables, given, runs, work);
-            match verdict {
-                Verdict::No(x) => {
-                    let n = refuse(out, text, codes, runs, tables, counts.stops as u16, x);
-                    Admitted::No(n)
-                }
-                Verdict::Accepted => Admitted::Yes(counts),
-            }
-        }
+    };
+    let given = Given {
+        stops: counts.stops,
+        runs: counts.runs,
+    };
+    if let Err(x) = verdict::check(tables, given, runs, work) {
+        return Err(refuse(out, text, codes, runs, tables, counts.stops as u16, x));
     }
+    Ok(counts)
 }
 
 // All that is told of a check.
@@ -386,47 +366,49 @@ pub fn checked(text: &[u8], tables: &[u8], out: &mut [u8]) -> usize
     let mut runs = [0u32; Run::ROOM];
     let mut codes = [0u32; Stop::CODES_ROOM];
     let mut work = [0u16; both::ROOM];
-    let admitted = admit(text, tables, &mut runs, &mut codes, &mut work, out);
-    match admitted {
-        Admitted::No(n) => n,
-        Admitted::Yes(_) => report::accepted_line(out, 0),
+    match admit(text, tables, &mut runs, &mut codes, &mut work, out) {
+        Err(n) => n,
+        Ok(_) => report::accepted_line(out, 0),
     }
 }
 
 // ---- The build.
 
-// The tables of the timetable text, and what is told of them.
-pub fn built(text: &[u8], tables: &mut [u8], out: &mut [u8]) -> Made
+// The tables of the timetable text, and what is told of them; `Err` has how many bytes tell why none were made.
+pub fn built(text: &[u8], tables: &mut [u8], out: &mut [u8]) -> Result<Made, usize>
     requires { told_room ≤ length out.old }
     ensures build_told { BuildTold text.now (length tables.old) tables.new out.old out.new result }
     ensures made_short { MadeShort (length tables.old) result }
 {
     let mut runs = [0u32; Run::ROOM];
     let mut codes = [0u32; Stop::CODES_ROOM];
-    let read = reader::read(text, &mut runs, &mut codes);
-    match read {
-        ReadAnswer::No(x) => {
-            loops::zero_u8(tables);
-            let n = report::refusal_line(out, 0, x);
-            Made::No(n)
+    let counts = match reader::read(text, &mut runs, &mut codes) {
+        Ok(counts) => counts,
+        Err(x) => {
+            loops::zero(tables);
+            return Err(report::refusal_line(out, 0, x));
         }
-        ReadAnswer::Read(counts) => {
-            let mut work = [0u16; Work::ROOM];
-            let given = Given {
-                stops: counts.stops,
-                runs: counts.runs,
-            };
-            let answer = builder::build(given, &runs, tables, &mut work);
-            match answer {
-                BuildAnswer::No(x) => {
-                    let n = report::refusal_line(out, 0, x);
-                    Made::No(n)
-                }
-                BuildAnswer::Built(long, labels) => {
-                    let n = report::written_line(out, 0, counts.stops, counts.runs, labels, long);
-                    Made::Tables(long as usize, n)
-                }
-            }
+    };
+    let mut work = [0u16; Work::ROOM];
+    let given = Given {
+        stops: counts.stops,
+        runs: counts.runs,
+    };
+    match builder::build(given, &runs, tables, &mut work) {
+        Err(x) => Err(report::refusal_line(out, 0, x)),
+        Ok(built) => {
+            let told = report::written_line(
+                out,
+                0,
+                counts.stops,
+                counts.runs,
+                built.labels,
+                built.length,
+            );
+            Ok(Made {
+                tables: built.length as usize,
+                told,
+            })
         }
     }
 }

@@ -1,5 +1,5 @@
 -- The example day: what is read of its text, the cases A to J, and its tables.
-use Rattle.std.specs.Prelude.{ℕ, zero, suc, ◌+◌, ◌*◌, ◌-◌, ◌≤◌, ◌<◌, ◌≡◌, refl, true, List, [], ◌∷◌, ◌++◌, length, get_or, replicate, ltb}
+use Rattle.std.specs.Prelude.{ℕ, zero, suc, ◌+◌, ◌*◌, ◌-◌, ◌≤◌, ◌<◌, ◌≡◌, refl, true, List, [], ◌∷◌, ◌++◌, length, get_or, replicate, ltb, Ok, Result}
 use Rattle.std.proofs.Common.{sym, ap, subst, subst₂, ◌∙◌, arith, length-append, ltb→lt, le-leb}
 use Rattle.std.proofs.Math.Path.{fun_ext}
 use Rattle.std.proofs.Math.Option.{none}
@@ -25,21 +25,19 @@ use Rattle.journeys.proofs.TestLaws.{all_of, good_of}
 use Rattle.journeys.specs.Tests.{allb, anyb, goodb, rideb, startb, reachb, withinb}
 use Rattle.timetable.specs.Numbers.{given_of, read_run, refused_run, judged_of}
 use Rattle.timetable.specs.Slots.{slots_of, slot_run, service_of}
-use Rattle.timetable.specs.declared.Judged.TheVariants as judged
 use Rattle.tables.specs.File.{start_of, label_at, tables_of, AreBytes}
 use Rattle.tables.specs.Judged.{follows, good_label, bad_label, judged_contents, judged_tables}
-use Rattle.tables.specs.declared.TablesRead.TheVariants.{Good}
 use Rattle.tables.specs.GoodLaws.{judged_good}
 use Rattle.tables.specs.TablesLaws.{good_tables}
-use Rattle.builder.specs.Build.{build_room, RuleFile, BuiltOf, built, BuildOf, good}
+use Rattle.builder.specs.Build.{build_room, RuleFile, BuiltOf, built, BuildOf, good, success}
 use Rattle.builder.specs.BuildLaws.{build_one}
-use Rattle.builder.specs.declared.BuildAnswer.{BuildAnswer}
-use Rattle.builder.specs.declared.BuildAnswer.TheVariants.{Built}
 use Rattle.example.specs.Day.{day_text, text_without2, read_whole, in_force_of, stop_called, example_day, day_numbers, without_run2, day_tables}
 use Rattle.example.specs.Cases.{Holds, cases_ato_j}
 use Rattle.example.proofs.CasesLaws.{cases_of}
 use Rattle.example.specs.CaseTests.{ridesb, freeb, bestb, noneb, saysb, casesb}
 use Rattle.example.specs.DayNumbers.{six_runs, five_runs, four_codes}
+use Rattle.builder.specs.declared.Built.{Built}
+use Rattle.kinds.specs.declared.Refusal.{Refusal}
 
 -- ---- what is read
 
@@ -108,7 +106,7 @@ cases_hold = subst₂ (λ (S R : Service). Holds (cases_ato_j S R)) (sym day_is)
 
 -- ---- its tables
 
-tables_judged : judged_tables day_tables ≡ Good 4
+tables_judged : judged_tables day_tables ≡ Ok 4
 unfolding judged_tables judged_contents bad_label good_label follows label_of is_stop_count start_of label_at first_of
 tables_judged = refl
 
@@ -155,20 +153,20 @@ unfolding first_of read_run run_of six_runs
 none_refused = refl
 
 good_numbers : (l : List ℕ) (work : ℕ) → 30 ≤ length l → build_room ≤ work → first_of (refused_run 4 l) 6 ≡ none →
-    judged_of (given_of 4 6) l work build_room ≡ judged.Good
+    judged_of (given_of 4 6) l work build_room ≡ (Ok tt)
 unfolding judged_of is_stop_count is_run_count
 good_numbers l work h k e = rw (le-leb 30 (length l) h, le-leb build_room work k, e)
 
-built_of : (lent : ℕ) → 54 ≤ lent → BuiltOf (service_of (given_of 4 6) six_runs) lent (Built 54 6) (day_tables ++ replicate (lent - 54) 0)
+built_of : (lent : ℕ) → 54 ≤ lent → BuiltOf (service_of (given_of 4 6) six_runs) lent (success 54 6) (day_tables ++ replicate (lent - 54) 0)
 unfolding service_of slots_of slot_run
 built_of lent h = built 6 day_tables rule_count (omega arith) h rule_file refl refl refl
 
 -- any build of T's numbers, where there is room, gives these 54 bytes and tells of 6 labels; zeros follow
-pub day_built : {work lent : ℕ} {answer : BuildAnswer} {tables : List ℕ} → build_room ≤ work → 54 ≤ lent → AreBytes tables →
+pub day_built : {work lent : ℕ} {answer : Result Built Refusal} {tables : List ℕ} → build_room ≤ work → 54 ≤ lent → AreBytes tables →
     BuildOf (given_of 4 6) day_numbers work lent answer tables →
-    (answer ≡ Built 54 6) × (tables ≡ day_tables ++ replicate (lent - 54) 0)
+    (answer ≡ success 54 6) × (tables ≡ day_tables ++ replicate (lent - 54) 0)
 day_built {work} {lent} {answer} {tables} w l x b =
     build_one x (λ i. subst (λ (y : ℕ). y < 256) (sym (zeros_after day_tables (lent - 54) i)) (are_bytes i))
     (subst (λ (r : List ℕ). BuildOf (given_of 4 6) r work lent answer tables) numbers_are b)
     (good (good_numbers _ work long w none_refused)
-    (subst (λ (S : Service). BuiltOf S lent (Built 54 6) (day_tables ++ replicate (lent - 54) 0)) (sym (same_service 4 6 six_runs 20450)) (built_of lent l)))
+    (subst (λ (S : Service). BuiltOf S lent (success 54 6) (day_tables ++ replicate (lent - 54) 0)) (sym (same_service 4 6 six_runs 20450)) (built_of lent l)))

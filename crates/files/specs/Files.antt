@@ -1,20 +1,17 @@
 -- What is known of a file that was read; the names under which a file is written before it gets its own; when it is whole.
-use Rattle.std.specs.Prelude.{ℕ, ◌/◌, ◌%◌, ◌≤◌, ◌<◌, ◌≡◌, List, [], ◌∷◌, ◌++◌, length, take, Bool, false, cond, eqb, leb}
+use Rattle.std.specs.Prelude.{ℕ, ◌/◌, ◌%◌, ◌≤◌, ◌<◌, ◌≡◌, List, [], ◌∷◌, ◌++◌, length, take, Bool, false, cond, eqb, leb, None, Option, Some, Err, Ok, Result}
 use Rattle.printed.specs.Printed.{digit}
 use Rattle.words.specs.Bytes.{bytes}
-use Rattle.files.specs.declared.FileRead.{FileRead}
-use Rattle.files.specs.declared.FileRead.TheVariants.{Read, No}
-use Rattle.files.specs.declared.Part.{Part}
-use Rattle.files.specs.declared.Part.TheVariants as part
+use Rattle.files.specs.declared.Unmade.{Unmade}
 
 -- the first n are there
 abbrev pub IsPrefixLen : ℕ → List ℕ → Type 0
 IsPrefixLen n xs = (n ≤ length xs) × (n ≡ length (take n xs))
 
 -- so many bytes of the buffer, which has so many, are the file's
-abbrev pub ReadWithin : ℕ → FileRead → Type 0
-ReadWithin room (Read n) = n ≤ room
-ReadWithin room No = Unit
+abbrev pub ReadWithin : ℕ → Option ℕ → Type 0
+ReadWithin room (Some n) = n ≤ room
+ReadWithin room None = Unit
 
 -- a number below 100 with two digits
 abbrev pub two_digits : ℕ → List ℕ
@@ -32,10 +29,10 @@ part_more = 7
 abbrev pub most_parts : ℕ
 most_parts = 100
 
-abbrev pub PartWithin : Part → Type 0
-PartWithin (part.Made k fd) = k < most_parts
-PartWithin part.Taken = Unit
-PartWithin part.No = Unit
+-- the number of the one that was made
+abbrev pub PartWithin : {F : Type 0} → Result (ℕ × F) Unmade → Type 0
+PartWithin (Ok p) = p.0 < most_parts
+PartWithin (Err e) = Unit
 
 -- with such a name and a zero byte behind it a file's name has at most 4,096 bytes, as the system wants it
 abbrev pub name_most : ℕ

@@ -4,7 +4,7 @@
 // a file. Where a file cannot be used standard output says so, and standard error says why, in the system's words. No contract can say what a file
 // holds or what is done to it. What is said: nothing is read or written outside the buffers, under which name a file is written first, when it counts as
 // whole, and that only a whole file gets its own name.
-ghost use Rattle.std.specs.Prelude.{◌+◌, ◌≤◌, ◌<◌, ◌≡◌, false, IfOk, eqb, length};
+ghost use Rattle.std.specs.Prelude.{◌+◌, ◌≤◌, ◌<◌, ◌≡◌, false, IfOk, IfSome, Ok, eqb, length};
 ghost use Rattle.printed.specs.Wrote.{Wrote};
 ghost use Rattle.files.specs.Files.{IsPrefixLen, ReadWithin, PartWithin, two_digits, part_name, part_more, most_parts, name_most, is_name, is_whole};
 
@@ -13,20 +13,13 @@ use std::env::{Env, FillError};
 use std::fs::{File, OpenOptions};
 use std::io::{Error, ErrorKind, Read, Write};
 use std::{fs, io, str};
+use words::Stretch;
 
-// What came of reading: so many bytes, at most as many as the buffer has; or the file cannot be read.
+// Why there is no file to be written under a first name: all names are taken, or it cannot be made.
 #[derive(Clone, Copy)]
-pub enum FileRead {
-    Read(usize),
-    No,
-}
-
-// A file to be written under its first name: its number, and the open file. Or all names are taken, or it cannot be made.
-#[derive(Drop)]
-enum Part {
-    Made(u8, File),
+enum Unmade {
     Taken,
-    No,
+    Failed,
 }
 
 // So many first names a file can have.
@@ -68,7 +61,12 @@ fn words_end(text: &[u8], n: usize) -> usize
     ensures { result ≤ n }
 {
     for k in 0..n {
-        if words::begins(text, k, n, b" (os error ") {
+        let rest = Stretch {
+            text,
+            from: k,
+            to: n,
+        };
+        if rest.begins(b" (os error ") {
             return k;
         }
     }
@@ -99,10 +97,7 @@ fn fail(rt: &HostRuntime, what: &[u8], why: &Error) {
 
 // A file's name as the library takes it.
 fn as_name(path: &[u8]) -> io::Result<&str> {
-    match str::from_utf8(path) {
-        Ok(name) => Ok(name),
-        Err(_) => Err(Error::new(ErrorKind::InvalidInput, "the name is not UTF-8")),
-    }
+    str::from_utf8(path).map_err(|_| Error::new(ErrorKind::InvalidInput, "the name is not UTF-8"))
 }
 
 // ---- Reading.
@@ -132,35 +127,36 @@ fn open_read(rt: &HostRuntime, path: &[u8]) -> io::Result<File> {
     File::open(rt, as_name(path)?)
 }
 
-// The file of this name, into the buffer. A file that fills it may be longer.
-fn read(rt: &HostRuntime, path: &[u8], buf: &mut [u8]) -> FileRead
+// What a call on the file of this name gave; `None` where it failed, and it was told why.
+fn or_told<T: Drop>(rt: &HostRuntime, what: &[u8], path: &[u8], given: io::Result<T>) -> Option<T>
+    ensures { IfSome result (λ x. given ≡ Ok x) }
+{
+    match given {
+        Ok(x) => Some(x),
+        Err(why) => {
+            fail(rt, path, &why);
+            say(rt, what, path, b"");
+            None
+        }
+    }
+}
+
+// The file of this name, into the buffer: so many bytes, at most as many as the buffer has. A file that fills it may be longer. `None`: the file cannot be
+// used, and it was told why.
+fn read(rt: &HostRuntime, path: &[u8], buf: &mut [u8]) -> Option<usize>
     ensures { ReadWithin (length buf.new) result }
 {
-    if path.len() == 0 {
+    if path.is_empty() {
         say(
             rt,
             b"cannot open ",
             path,
             b": the name is empty or too long",
         );
-        return FileRead::No;
+        return None;
     }
-    let mut file = match open_read(rt, path) {
-        Ok(file) => file,
-        Err(why) => {
-            fail(rt, path, &why);
-            say(rt, b"cannot open ", path, b"");
-            return FileRead::No;
-        }
-    };
-    match read_all(&mut file, buf) {
-        Ok(n) => FileRead::Read(n),
-        Err(why) => {
-            fail(rt, path, &why);
-            say(rt, b"cannot read ", path, b"");
-            FileRead::No
-        }
-    }
+    let mut file = or_told(rt, b"cannot open ", path, open_read(rt, path))?;
+    or_told(rt, b"cannot read ", path, read_all(&mut file, buf))
 }
 
 // Says that the file is longer than it may be.
@@ -173,14 +169,14 @@ fn say_more(rt: &HostRuntime, name: &[u8], most: u32)
 }
 
 // The file that argument i names, into the buffer. One that has more bytes than it may have is told of; the buffer has room for one byte more, which
-// tells it from a file that fits.
-pub fn read_named(rt: &HostRuntime, i: usize, most: u32, buf: &mut [u8]) -> FileRead
+// tells it from a file that fits. `None`: the file cannot be used, and it was told why.
+pub fn read_named(rt: &HostRuntime, i: usize, most: u32, buf: &mut [u8]) -> Option<usize>
     ensures { ReadWithin (length buf.new) result }
 {
     let mut path = name_room();
     let n = arg(rt, i, &mut path);
     let read = read(rt, &path[..n], buf);
-    if let FileRead::Read(m) = read {
+    if let Some(m) = read {
         if (most as usize) < m {
             say_more(rt, &path[..n], most);
         }
@@ -227,37 +223,30 @@ fn make_one(rt: &HostRuntime, path: &[u8], k: u8) -> io::Result<File>
 }
 
 // Makes a file under the first of its first names that is free. Another build may be writing the others, or a build that was broken off left them.
-fn make_part(rt: &HostRuntime, path: &[u8]) -> Part
+// `Ok` has its number, and the open file.
+fn make_part(rt: &HostRuntime, path: &[u8]) -> Result<(u8, File), Unmade>
     requires { length path.now ≤ name_most }
     ensures { PartWithin result }
 {
-    let mut k = 0;
-    while k < PARTS {
+    for k in 0..PARTS {
         match make_one(rt, path, k) {
-            Ok(file) => return Part::Made(k, file),
+            Ok(file) => return Ok((k, file)),
             Err(why) => {
                 if why.kind() != ErrorKind::AlreadyExists {
                     fail(rt, path, &why);
-                    return Part::No;
+                    return Err(Unmade::Failed);
                 }
             }
         }
-        k += 1;
     }
-    Part::Taken
+    Err(Unmade::Taken)
 }
 
 // A file is whole where all of its bytes were taken, are kept, and it was closed.
 fn is_whole(written: bool, kept: bool, closed: bool) -> bool
     ensures { result ≡ is_whole written kept closed }
 {
-    if !written {
-        return false;
-    }
-    if !kept {
-        return false;
-    }
-    closed
+    written && kept && closed
 }
 
 // Writes all of the bytes, sees that they are kept, and closes the file. Whether it is whole; the library tells nothing of a close that fails. Where it
@@ -319,10 +308,7 @@ fn write_part(rt: &HostRuntime, path: &[u8], k: u8, file: File, bytes: &[u8]) ->
 fn is_name(path: &[u8]) -> bool
     ensures { result ≡ is_name (length path.now) }
 {
-    if path.len() == 0 {
-        return false;
-    }
-    path.len() <= NAME_MOST
+    !path.is_empty() && path.len() <= NAME_MOST
 }
 
 // The bytes, as the file of this name. They are written under another name, which no other build has.
@@ -338,10 +324,9 @@ pub fn write(rt: &HostRuntime, path: &[u8], bytes: &[u8]) -> bool
         );
         return false;
     }
-    let part = make_part(rt, path);
-    match part {
-        Part::Made(k, file) => write_part(rt, path, k, file, bytes),
-        Part::Taken => {
+    match make_part(rt, path) {
+        Ok((k, file)) => write_part(rt, path, k, file, bytes),
+        Err(Unmade::Taken) => {
             say(
                 rt,
                 b"cannot make ",
@@ -350,7 +335,7 @@ pub fn write(rt: &HostRuntime, path: &[u8], bytes: &[u8]) -> bool
             );
             false
         }
-        Part::No => {
+        Err(Unmade::Failed) => {
             say(rt, b"cannot make ", path, b"");
             false
         }

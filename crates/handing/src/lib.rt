@@ -20,12 +20,6 @@ pub struct Failure {
     bytes: usize,
 }
 
-#[derive(Drop)]
-pub enum Handed {
-    All(Written),
-    Failed(Failure),
-}
-
 impl Written {
     pub fn none() -> Written
         ensures { result ≡ record { bytes = 0 } }
@@ -35,23 +29,24 @@ impl Written {
 }
 
 // What n bytes more come to: they were taken, or not.
-fn handed_as(before: Written, n: usize, taken: bool) -> Handed
+fn handed_as(before: Written, n: usize, taken: bool) -> Result<Written, Failure>
     requires { before.bytes + n ≤ most_bytes }
     ensures { result ≡ handed_as before n taken }
 {
     if taken {
-        return Handed::All(Written {
+        Ok(Written {
             bytes: before.bytes + n,
-        });
+        })
+    } else {
+        Err(Failure {
+            before: before.bytes,
+            bytes: n,
+        })
     }
-    Handed::Failed(Failure {
-        before: before.bytes,
-        bytes: n,
-    })
 }
 
-// The first n bytes of the buffer go to standard output, after those that were written before.
-pub fn hand(rt: &HostRuntime, before: Written, out: &[u8], n: usize) -> Handed
+// The first n bytes of the buffer go to standard output, after those that were written before. `Err` tells of a write that failed.
+pub fn hand(rt: &HostRuntime, before: Written, out: &[u8], n: usize) -> Result<Written, Failure>
     requires n_in_bounds { n ≤ length out.now }
     requires n_bound { before.bytes + n ≤ most_bytes }
     ensures { HandedOn before n result }
@@ -65,6 +60,7 @@ pub fn read_full(input: &mut impl Read, buf: &mut [u8]) -> usize
     ensures { result ≤ length buf.new }
 {
     let mut done = 0;
+    // not a counted loop: a read puts as many bytes as it has
     while done < buf.len() {
         match input.read(&mut buf[done..]) {
             Ok(0) => break,

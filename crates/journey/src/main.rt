@@ -5,11 +5,11 @@
 ghost use Rattle.journey.specs.Sent.{SentFor};
 
 use builder::Work;
+use handing::{Failure, Written};
 use kinds::{Minute, Run, Stop, Text};
-use sending::Sent;
 
 // The whole output for an input.
-fn answer(rt: &HostRuntime, input: &[u8]) -> Sent
+fn answer(rt: &HostRuntime, input: &[u8]) -> Result<Written, Failure>
     ensures { SentFor input.now result }
 {
     let mut runs = [0u32; Run::ROOM];
@@ -28,5 +28,5 @@ fn answer(rt: &HostRuntime, input: &[u8]) -> Sent
 fn main(rt: HostRuntime) {
     let mut input = [0u8; Text::INPUT_MOST + 1];
     let n = handing::read_full(&mut rt.stdin(), &mut input);
-    answer(&rt, &input[..n]);
+    let _ = answer(&rt, &input[..n]);
 }

@@ -1,17 +1,15 @@
 -- What the program "journey" prints for its input t. No contract can say what a program writes: the contracts of this crate say which bytes come
 -- next (Steps.antt), the program hands them on in this order, and by the laws (OutputLaws.antt) together they are what is said here.
-use Rattle.std.specs.Prelude.{ℕ, ◌+◌, ◌≡◌, List, [], ◌++◌, cond, length, take, replicate, ltb}
+use Rattle.kinds.specs.Refusals.{number_of}
+use Rattle.std.specs.Prelude.{ℕ, ◌+◌, ◌≡◌, List, [], ◌++◌, cond, length, take, replicate, ltb, Err, Ok}
 use Rattle.kinds.specs.Limits.{most_input, runs_room, codes_room, last_minute}
-use Rattle.kinds.specs.Refusals.{line_shape, over_limit}
 use Rattle.kinds.specs.declared.Refusal.{Refusal}
 use Rattle.timetable.specs.declared.Given.{Given}
 use Rattle.timetable.specs.Numbers.{given_of}
 use Rattle.tables.specs.File.{file_room, AreBytes}
 use Rattle.reader.specs.declared.Counts.{Counts}
-use Rattle.reader.specs.declared.ReadAnswer.TheVariants as read
 use Rattle.reader.specs.Text.{ReadOutcome, bad, read_text, answer_of, runs_of, codes_of}
-use Rattle.builder.specs.declared.BuildAnswer.TheVariants as build
-use Rattle.builder.specs.Build.{build_room, BuildOf}
+use Rattle.builder.specs.Build.{build_room, BuildOf, success}
 use Rattle.both.specs.Both.{work_room}
 use Rattle.askline.specs.declared.Piece.TheVariants as piece
 use Rattle.askline.specs.AskLine.{ask_line}
@@ -22,19 +20,20 @@ use Rattle.journey_lines.specs.declared.Sizes.{Sizes}
 use Rattle.journey_lines.specs.declared.Turn.{Turn}
 use Rattle.journey_lines.specs.declared.Stage.{Stage}
 use Rattle.journey_lines.specs.declared.Stage.TheVariants.{Refused, Asks, Over}
+use Rattle.kinds.specs.declared.Reason.TheVariants as reason
 
 -- ""journey" reads a timetable through its first "end" line"; "The program holds at most 65,536 bytes of input; longer input prints "no 8 0"."
 unfoldable pub read_input : List ℕ → ℕ → ℕ → ReadOutcome
-read_input t runs codes = cond (ltb most_input (length t)) (bad over_limit 0) (read_text (take (timetable_end t) t) runs codes)
+read_input t runs codes = cond (ltb most_input (length t)) (bad reason.OverLimit 0) (read_text (take (timetable_end t) t) runs codes)
 
 -- Then the tables are built, also where no ask follows. The tables' room, so many bytes of it lent, then holds `tables`.
 pub data StartOf (t : List ℕ) (runs codes work lent : ℕ) (tables : List ℕ) (s : Stage) : Type 0 where
-  unread : (r : Refusal) → answer_of (read_input t runs codes) ≡ read.No r → s ≡ Refused r → tables ≡ replicate lent 0 → StartOf t runs codes work lent tables s
-  unbuilt : (k : Counts) (r : Refusal) → answer_of (read_input t runs codes) ≡ read.Read k →
-      BuildOf (given_of k.stops k.runs) (runs_of (read_input t runs codes) runs) work lent (build.No r) tables → s ≡ Refused r →
+  unread : (r : Refusal) → answer_of (read_input t runs codes) ≡ Err r → s ≡ Refused r → tables ≡ replicate lent 0 → StartOf t runs codes work lent tables s
+  unbuilt : (k : Counts) (r : Refusal) → answer_of (read_input t runs codes) ≡ Ok k →
+      BuildOf (given_of k.stops k.runs) (runs_of (read_input t runs codes) runs) work lent (Err r) tables → s ≡ Refused r →
       StartOf t runs codes work lent tables s
-  built : (k : Counts) (n labels : ℕ) → answer_of (read_input t runs codes) ≡ read.Read k →
-      BuildOf (given_of k.stops k.runs) (runs_of (read_input t runs codes) runs) work lent (build.Built n labels) tables →
+  built : (k : Counts) (n labels : ℕ) → answer_of (read_input t runs codes) ≡ Ok k →
+      BuildOf (given_of k.stops k.runs) (runs_of (read_input t runs codes) runs) work lent (success n labels) tables →
       s ≡ Asks (record { given = given_of k.stops k.runs; text = timetable_end t; tables = n }) (record { at = timetable_end t; ride = 0; rides = 0 }) →
       StartOf t runs codes work lent tables s
 
@@ -59,7 +58,7 @@ LinePrints h t a e xs =
 -- ill-shaped ask, or one without LF, is "no 2"".
 pub data LinesPrint (P : ℕ → ℕ → List ℕ → Type 0) (t : List ℕ) : ℕ → List ℕ → Type 0 where
   none : {a : ℕ} {xs : List ℕ} → piece_at t a ≡ piece.Done → xs ≡ [] → LinesPrint P t a xs
-  unfinished : {a : ℕ} {xs : List ℕ} → piece_at t a ≡ piece.Unfinished → xs ≡ no_line line_shape → LinesPrint P t a xs
+  unfinished : {a : ℕ} {xs : List ℕ} → piece_at t a ≡ piece.Unfinished → xs ≡ no_line (number_of reason.LineShape) → LinesPrint P t a xs
   line : {a : ℕ} {xs : List ℕ} (e : ℕ) (ys zs : List ℕ) → piece_at t a ≡ piece.Line e → P a e ys → LinesPrint P t (e + 1) zs → xs ≡ ys ++ zs →
       LinesPrint P t a xs
 
@@ -73,7 +72,7 @@ pub record TurnPrints (h : Held) (t list : List ℕ) (p : Turn) (xs : List ℕ) 
 
 -- "A refused timetable prints "no", number and place, and nothing more. A refused build prints the same way."
 abbrev pub refused_line : Refusal → List ℕ
-refused_line r = no_place_line r.number r.place
+refused_line r = no_place_line (number_of r.reason) r.place
 
 -- what is still to be printed at a stage
 abbrev pub Prints : List ℕ → List ℕ → List ℕ → List ℕ → List ℕ → Stage → List ℕ → Type 0

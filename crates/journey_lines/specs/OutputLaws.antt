@@ -1,12 +1,11 @@
 -- Laws of the output: the program's start leads to it, its steps print it line by line, and it is one.
-use Rattle.std.specs.Prelude.{ℕ, ◌+◌, ◌*◌, ◌≤◌, ◌<◌, ◌≡◌, refl, List, [], ◌++◌, length, take, replicate}
+use Rattle.std.specs.Prelude.{ℕ, ◌+◌, ◌*◌, ◌≤◌, ◌<◌, ◌≡◌, refl, List, [], ◌++◌, length, take, replicate, None, Option, Result}
 use Rattle.std.proofs.Common.{sym, ap, ap₂, subst, subst₂, ◌∙◌, append_assoc, arith, length-append, length-take-le}
 use Rattle.kinds.specs.Limits.{runs_room, codes_room, last_minute}
 use Rattle.timetable.specs.Numbers.{given_of}
 use Rattle.tables.specs.File.{file_room, AreBytes}
 use Rattle.reader.specs.declared.Counts.{Counts}
 use Rattle.reader.specs.Text.{runs_of, codes_of, GoodRead}
-use Rattle.builder.specs.declared.BuildAnswer.{BuildAnswer}
 use Rattle.builder.specs.Build.{build_room, BuildOf}
 use Rattle.builder.specs.BuildLaws.{built_within, build_one}
 use Rattle.askline.specs.Input.{timetable_end}
@@ -17,15 +16,16 @@ use Rattle.answers.specs.AnswersLaws.{printed_one, lines_none}
 use Rattle.journey_lines.specs.Output.{read_input, StartOf, unread, unbuilt, built, Held, LinePrints, LinesPrint, none, unfinished, line, TurnPrints}
 use Rattle.journey_lines.specs.Output.{Prints, OutputOf}
 use Rattle.journey_lines.specs.InputLaws.{read_held, input_good}
-use Rattle.journey_lines.specs.Steps.{StepOf, Stands}
+use Rattle.journey_lines.specs.Steps.{StepOf, Stands, printing}
 use Rattle.journey_lines.specs.StepLaws.{left_most, few_bytes, some_bytes, step_stands, step_less, append_one, step_prints, step_first, step_over}
 use Rattle.journey_lines.specs.Turns.{left, most_lines}
 use Rattle.journey_lines.specs.declared.Turn.{Turn}
 use Rattle.journey_lines.specs.declared.Stage.{Stage}
 use Rattle.journey_lines.specs.declared.Stage.TheVariants.{Refused, Asks, Over}
-use Rattle.journey_lines.specs.declared.Step.{Step}
-use Rattle.journey_lines.specs.declared.Step.TheVariants.{Printed, Nothing}
 use Rattle.journey_lines.specs.Along.{StartPrints, Along}
+use Rattle.builder.specs.declared.Built.{Built}
+use Rattle.kinds.specs.declared.Refusal.{Refusal}
+use Rattle.journey_lines.specs.declared.Printed.{Printed}
 
 -- ---- from the start to the steps
 
@@ -95,9 +95,9 @@ along_none t runs codes tables list s R e =
     }
 
 module _ (t runs codes tables before list out list' out' : List ℕ) (first s : Stage) {total : ℕ}
-    (D : Along t runs codes tables before first list s total) {x : Step}
+    (D : Along t runs codes tables before first list s total) {x : Option Printed}
     (S : StepOf t runs codes tables s list out list' out' x) where
-  module _ (n : ℕ) (s' : Stage) (e : x ≡ Printed n s') where
+  module _ (n : ℕ) (s' : Stage) (e : x ≡ printing n s') where
     -- the line is within the buffer
     pub along_bytes : n ≤ longest_line
     along_bytes = few_bytes t runs codes tables s list out list' out' S n s' e
@@ -149,7 +149,7 @@ module _ (t runs codes tables before list out list' out' : List ℕ) (first s : 
         )
 
   -- all that is to be printed was written
-  pub along_all : x ≡ Nothing → (xs : List ℕ) × Prints t runs codes tables before first xs × (total ≡ length xs)
+  pub along_all : x ≡ None → (xs : List ℕ) × Prints t runs codes tables before first xs × (total ≡ length xs)
   along_all e =
       (D.done ++ [], D.rest [] (step_over t runs codes tables list out list' out' s D.stands S e), rw length-append (omega (arith, D.count)))
 
@@ -158,13 +158,13 @@ module _ (t runs codes tables before list out list' out' : List ℕ) (first s : 
 lines_one : {P : ℕ → ℕ → List ℕ → Type 0} {t : List ℕ} {a : ℕ} {xs ys : List ℕ} → ((i e : ℕ) (l m : List ℕ) → P i e l → P i e m → l ≡ m) →
     LinesPrint P t a xs → LinesPrint P t a ys → xs ≡ ys
 lines_one o (none p q) (none p' q') = q ∙ sym q'
-lines_one o (none p q) (unfinished p' q') = let y : ◌≡◌ {A = ℕ} 0 1 = let g = sym p ∙ p' in cc in absurd (omega arith)
-lines_one o (none p q) (line e l m p' f r q') = let y : ◌≡◌ {A = ℕ} 0 1 = let g = sym p ∙ p' in cc in absurd (omega arith)
-lines_one o (unfinished p q) (none p' q') = let y : ◌≡◌ {A = ℕ} 0 1 = let g = sym p ∙ p' in cc in absurd (omega arith)
+lines_one o (none p q) (unfinished p' q') = let g = sym p ∙ p' in cc
+lines_one o (none p q) (line e l m p' f r q') = let g = sym p ∙ p' in cc
+lines_one o (unfinished p q) (none p' q') = let g = sym p ∙ p' in cc
 lines_one o (unfinished p q) (unfinished p' q') = q ∙ sym q'
-lines_one o (unfinished p q) (line e l m p' f r q') = let y : ◌≡◌ {A = ℕ} 0 1 = let g = sym p ∙ p' in cc in absurd (omega arith)
-lines_one o (line e l m p f r q) (none p' q') = let y : ◌≡◌ {A = ℕ} 0 1 = let g = sym p ∙ p' in cc in absurd (omega arith)
-lines_one o (line e l m p f r q) (unfinished p' q') = let y : ◌≡◌ {A = ℕ} 0 1 = let g = sym p ∙ p' in cc in absurd (omega arith)
+lines_one o (unfinished p q) (line e l m p' f r q') = let g = sym p ∙ p' in cc
+lines_one o (line e l m p f r q) (none p' q') = let g = sym p ∙ p' in cc
+lines_one o (line e l m p f r q) (unfinished p' q') = let g = sym p ∙ p' in cc
 lines_one {P} {t} {a} o (line e l m p f r q) (line e' l' m' p' f' r' q') =
     let g = sym p' ∙ p in
     let i : e' ≡ e = cc in
@@ -189,7 +189,7 @@ prints_one t runs codes tables list (Refused r) xs ys P Q = P ∙ sym Q
 prints_one t runs codes tables list (Asks z p) xs ys P Q = turn_one P Q
 prints_one t runs codes tables list Over xs ys P Q = P ∙ sym Q
 
-same_build : {k c : Counts} → k ≡ c → {runs : List ℕ} {work lent : ℕ} {y : BuildAnswer} {tables : List ℕ} →
+same_build : {k c : Counts} → k ≡ c → {runs : List ℕ} {work lent : ℕ} {y : Result Built Refusal} {tables : List ℕ} →
     BuildOf (given_of k.stops k.runs) runs work lent y tables →
     BuildOf (given_of c.stops c.runs) runs work lent y tables
 same_build e {runs} {work} {lent} {y} {tables} b = subst (λ (i : Counts). BuildOf (given_of i.stops i.runs) runs work lent y tables) e b
@@ -199,9 +199,9 @@ module _ {t : List ℕ} {roomR roomC work lent : ℕ} {tables other : List ℕ} 
   pub start_one : AreBytes tables → AreBytes other → StartOf t roomR roomC work lent tables s → StartOf t roomR roomC work lent other r → (s ≡ r) ×
       (tables ≡ other)
   start_one x y (unread q e f z) (unread q' e' f' z') = let g = sym e ∙ e' in let i : q ≡ q' = cc in (f ∙ ap Refused i ∙ sym f', z ∙ sym z')
-  start_one x y (unread q e f z) (unbuilt k q' e' b f') = let w : ◌≡◌ {A = ℕ} 0 1 = let g = sym e ∙ e' in cc in absurd (omega arith)
-  start_one x y (unread q e f z) (built k n l e' b f') = let w : ◌≡◌ {A = ℕ} 0 1 = let g = sym e ∙ e' in cc in absurd (omega arith)
-  start_one x y (unbuilt k q e b f) (unread q' e' f' z') = let w : ◌≡◌ {A = ℕ} 0 1 = let g = sym e ∙ e' in cc in absurd (omega arith)
+  start_one x y (unread q e f z) (unbuilt k q' e' b f') = let g = sym e ∙ e' in cc
+  start_one x y (unread q e f z) (built k n l e' b f') = let g = sym e ∙ e' in cc
+  start_one x y (unbuilt k q e b f) (unread q' e' f' z') = let g = sym e ∙ e' in cc
   start_one x y (unbuilt k q e b f) (unbuilt k' q' e' b' f') =
       let g = sym e' ∙ e in
       let i : k' ≡ k = cc in
@@ -212,20 +212,19 @@ module _ {t : List ℕ} {roomR roomC work lent : ℕ} {tables other : List ℕ} 
   start_one x y (unbuilt k q e b f) (built k' n l e' b' f') =
       let g = sym e' ∙ e in
       let i : k' ≡ k = cc in
-      let w : ◌≡◌ {A = ℕ} 0 1 = let h = (build_one x y b (same_build i b')).0 in cc in
-      absurd (omega arith)
-  start_one x y (built k n l e b f) (unread q' e' f' z') = let w : ◌≡◌ {A = ℕ} 0 1 = let g = sym e ∙ e' in cc in absurd (omega arith)
+      let h = (build_one x y b (same_build i b')).0 in cc
+  start_one x y (built k n l e b f) (unread q' e' f' z') = let g = sym e ∙ e' in cc
   start_one x y (built k n l e b f) (unbuilt k' q' e' b' f') =
       let g = sym e' ∙ e in
       let i : k' ≡ k = cc in
-      let w : ◌≡◌ {A = ℕ} 0 1 = let h = (build_one x y b (same_build i b')).0 in cc in
-      absurd (omega arith)
+      let h = (build_one x y b (same_build i b')).0 in cc
   start_one x y (built k n l e b f) (built k' n' l' e' b' f') =
       let g = sym e' ∙ e in
       let i : k' ≡ k = cc in
       let o = build_one x y b (same_build i b') in
       let h = o.0 in
-      let j : n ≡ n' = cc in (
+      let m : ◌≡◌ {A = Built} (record { length = n; labels = l }) (record { length = n'; labels = l' }) = cc in
+      let j : n ≡ n' = ap (λ (x : Built). x.length) m in (
         f ∙ ap₂ (λ (c : Counts) (m : ℕ). Asks (record { given = given_of c.stops c.runs; text = timetable_end t; tables = m })
             (record { at = timetable_end t; ride = 0; rides = 0 })) (sym i) j ∙ sym f',
         o.1,

@@ -1,14 +1,12 @@
 -- Laws of a step: where the next one may be made, what is left after it, and that line by line the steps print what is said in Output.antt.
+use Rattle.kinds.specs.Refusals.{number_of}
 use Rattle.std.specs.Prelude.{ℕ, zero, suc, ◌+◌, ◌-◌, ◌≤◌, ◌<◌, ◌≡◌, refl, List, [], ◌∷◌, ◌++◌, length, take, get_or, replicate}
+use Rattle.std.specs.Prelude.{Err, None, Ok, Option, Result}
 use Rattle.std.proofs.Common.{sym, ap, ap₂, subst, subst₂, ◌∙◌, append_assoc, append-nil, arith}
 use Rattle.std.proofs.lemmas.List.{length-replicate}
 use Rattle.kinds.specs.Limits.{last_minute}
-use Rattle.kinds.specs.Refusals.{line_shape}
 use Rattle.timetable.specs.Numbers.{run_at}
-use Rattle.rides.specs.declared.RidesAnswer.{RidesAnswer}
-use Rattle.rides.specs.declared.RidesAnswer.TheVariants as rides
 use Rattle.both.specs.Both.{work_room}
-use Rattle.askline.specs.declared.LineRead.{LineRead}
 use Rattle.askline.specs.declared.Piece.TheVariants as piece
 use Rattle.askline.specs.AskLine.{ask_line}
 use Rattle.askline.specs.Input.{piece_at}
@@ -20,18 +18,24 @@ use Rattle.answers.specs.Answers.{LineGets, head_of, rides_in, ride_line_of, rid
 use Rattle.answers.specs.AnswersLaws.{gets_one, gets_lent, lines_none, lines_more, lines_on, printed_is, ridden_all}
 use Rattle.journey_lines.specs.Output.{Held, held_of, LinePrints, LinesPrint, none, unfinished, line, TurnPrints, Prints}
 use Rattle.journey_lines.specs.Steps as step
-use Rattle.journey_lines.specs.Steps.{Writes, TurnStep, StepOf, Ready, Stands}
+use Rattle.journey_lines.specs.Steps.{Writes, TurnStep, StepOf, Ready, Stands, printing}
 use Rattle.journey_lines.specs.declared.Sizes.{Sizes}
 use Rattle.journey_lines.specs.declared.Turn.{Turn}
 use Rattle.journey_lines.specs.declared.Stage.{Stage}
 use Rattle.journey_lines.specs.declared.Stage.TheVariants.{Refused, Asks, Over}
-use Rattle.journey_lines.specs.declared.Step.{Step}
-use Rattle.journey_lines.specs.declared.Step.TheVariants.{Printed, Nothing}
 use Rattle.journey_lines.specs.Turns.{left, most_lines}
+use Rattle.kinds.specs.declared.Reason.TheVariants as reason
+use Rattle.rides.specs.declared.Listed.{Listed}
+use Rattle.kinds.specs.declared.Refusal.{Refusal}
+use Rattle.askline.specs.declared.Ask.{Ask}
+use Rattle.kinds.specs.declared.Reason.{Reason}
+use Rattle.journey_lines.specs.declared.Printed.{Printed}
 
 -- two steps that are one have one number of bytes, and one stage follows
-same_bytes : {n m : ℕ} {s r : Stage} → Printed n s ≡ Printed m r → (n ≡ m) × (s ≡ r)
-same_bytes e = (cc, cc)
+same_bytes : {n m : ℕ} {s r : Stage} → printing n s ≡ printing m r → (n ≡ m) × (s ≡ r)
+same_bytes {n} {m} {s} {r} e =
+    let f : ◌≡◌ {A = Printed} (record { bytes = n; after = s }) (record { bytes = m; after = r }) = cc in
+    (ap (λ (x : Printed). x.bytes) f, ap (λ (x : Printed). x.after) f)
 
 module _ {t runs codes tables list : List ℕ} {z : Sizes} {p : Turn} (R : Ready t runs codes tables list z p) where
   -- no more rides are listed than there is room for
@@ -42,7 +46,7 @@ module _ {t runs codes tables list : List ℕ} {z : Sizes} {p : Turn} (R : Ready
       go zero f = omega arith
       go (suc n) f = omega (arith, (f n (omega arith)).within, R.listed)
 
-  module _ {out list' out' : List ℕ} {x : Step} (same : length list' ≡ length list) {n : ℕ} {s : Stage} (e : x ≡ Printed n s) where
+  module _ {out list' out' : List ℕ} {x : Option Printed} (same : length list' ≡ length list) {n : ℕ} {s : Stage} (e : x ≡ printing n s) where
     turn_stands : TurnStep (held_of t runs codes tables z) t z p list out list' out' x → Stands t runs codes tables list' s
     turn_stands (step.ride lt l w) =
         subst (Stands t runs codes tables list') (same_bytes (sym w.is ∙ e)).1
@@ -70,7 +74,7 @@ module _ {t runs codes tables list : List ℕ} {z : Sizes} {p : Turn} (R : Ready
               (ask_line (take z.text t) codes z.given.stops t p.at i) list list' y g;
         })
     turn_stands (step.unfinished le at l w) = subst (Stands t runs codes tables list') (same_bytes (sym w.is ∙ e)).1 tt
-    turn_stands (step.none le at l o f) = let y : ◌≡◌ {A = ℕ} 0 1 = let g = sym e ∙ f in cc in absurd (omega arith)
+    turn_stands (step.none le at l o f) = let g = sym e ∙ f in cc
 
 module _ (t runs codes tables list : List ℕ) where
   -- so many lines are left at most at any stage
@@ -79,17 +83,17 @@ module _ (t runs codes tables list : List ℕ) where
   left_most (Asks z p) R = omega (arith, few_rides R, R.short)
   left_most Over R = omega arith
 
-  module _ (out list' out' : List ℕ) {x : Step} where
+  module _ (out list' out' : List ℕ) {x : Option Printed} where
     -- a step can follow the step
     pub step_stands : (s : Stage) → Stands t runs codes tables list s → StepOf t runs codes tables s list out list' out' x → length list' ≡ length list →
-        (n : ℕ) (s' : Stage) → x ≡ Printed n s' → Stands t runs codes tables list' s'
+        (n : ℕ) (s' : Stage) → x ≡ printing n s' → Stands t runs codes tables list' s'
     step_stands (Refused r) R S same n s' e = subst (Stands t runs codes tables list') (same_bytes (sym S.0.is ∙ e)).1 tt
     step_stands (Asks z p) R S same n s' e = turn_stands R same e S
-    step_stands Over R S same n s' e = let y : ◌≡◌ {A = ℕ} 0 1 = let g = sym e ∙ S.0 in cc in absurd (omega arith)
+    step_stands Over R S same n s' e = let g = sym e ∙ S.0 in cc
 
     -- and fewer lines are left
     pub step_less : (s : Stage) → Stands t runs codes tables list s → StepOf t runs codes tables s list out list' out' x → length list' ≡ length list →
-        (n : ℕ) (s' : Stage) → x ≡ Printed n s' → left (length t) s' < left (length t) s
+        (n : ℕ) (s' : Stage) → x ≡ printing n s' → left (length t) s' < left (length t) s
     step_less (Refused r) R S same n s' e = subst (λ i. left (length t) i < 1) (same_bytes (sym S.0.is ∙ e)).1 (omega arith)
     step_less (Asks z p) R (step.ride lt l w) same n s' e =
         subst (λ i. left (length t) i < left (length t) (Asks z p)) (same_bytes (sym w.is ∙ e)).1 (omega arith)
@@ -99,8 +103,8 @@ module _ (t runs codes tables list : List ℕ) where
         subst (λ i. left (length t) i < left (length t) (Asks z p)) (same_bytes (sym w.is ∙ e)).1 (omega (arith, h.0, h.1, few))
     step_less (Asks z p) R (step.unfinished le at l w) same n s' e =
         subst (λ i. left (length t) i < left (length t) (Asks z p)) (same_bytes (sym w.is ∙ e)).1 (omega arith)
-    step_less (Asks z p) R (step.none le at l o f) same n s' e = let y : ◌≡◌ {A = ℕ} 0 1 = let g = sym e ∙ f in cc in absurd (omega arith)
-    step_less Over R S same n s' e = let y : ◌≡◌ {A = ℕ} 0 1 = let g = sym e ∙ S.0 in cc in absurd (omega arith)
+    step_less (Asks z p) R (step.none le at l o f) same n s' e = let g = sym e ∙ f in cc
+    step_less Over R S same n s' e = let g = sym e ∙ S.0 in cc
 
 -- ---- line by line, the steps print what is said
 
@@ -109,15 +113,15 @@ append_one [] e = e
 append_one (x ∷ l) e = append_one l cc
 
 -- where the last line has no LF, "no 2" is all that is left
-unfinished_is : {P : ℕ → ℕ → List ℕ → Type 0} {t : List ℕ} {a : ℕ} {xs : List ℕ} → piece_at t a ≡ piece.Unfinished → LinesPrint P t a xs → xs ≡ no_line
-    line_shape
-unfinished_is at (none at' is) = let k : ◌≡◌ {A = ℕ} 0 1 = let j = sym at ∙ at' in cc in absurd (omega arith)
+unfinished_is : {P : ℕ → ℕ → List ℕ → Type 0} {t : List ℕ} {a : ℕ} {xs : List ℕ} → piece_at t a ≡ piece.Unfinished →
+    LinesPrint P t a xs → xs ≡ no_line (number_of reason.LineShape)
+unfinished_is at (none at' is) = let j = sym at ∙ at' in cc
 unfinished_is at (unfinished at' is) = is
-unfinished_is at (line i ys zs at' f rest is) = let k : ◌≡◌ {A = ℕ} 0 1 = let j = sym at ∙ at' in cc in absurd (omega arith)
+unfinished_is at (line i ys zs at' f rest is) = let j = sym at ∙ at' in cc
 
 -- the buffer's first bytes are the line
-pub first_bytes : {out xs out' : List ℕ} {s : Stage} {x : Step} → Writes out xs s out' x → longest_line ≤ length out → (n : ℕ) (s' : Stage) →
-    x ≡ Printed n s' → take n out' ≡ xs
+pub first_bytes : {out xs out' : List ℕ} {s : Stage} {x : Option Printed} → Writes out xs s out' x → longest_line ≤ length out → (n : ℕ) (s' : Stage) →
+    x ≡ printing n s' → take n out' ≡ xs
 first_bytes {xs = xs} {out' = out'} w h n s' e =
     let b = (same_bytes (sym w.is ∙ e)).0 in
     ap (λ (m : ℕ). take m out') (sym b) ∙ wrote_first w.wrote (omega (arith, w.wrote.end, w.short))
@@ -154,7 +158,7 @@ module _ {t runs codes tables list : List ℕ} {z : Sizes} {p : Turn} (R : Ready
       }
 
   -- the first line of an answer, and then what follows it
-  line_more : {list' : List ℕ} (i : ℕ) (y : RidesAnswer) → p.rides ≤ p.ride → piece_at t p.at ≡ piece.Line i →
+  line_more : {list' : List ℕ} (i : ℕ) (y : Result Listed Refusal) → p.rides ≤ p.ride → piece_at t p.at ≡ piece.Line i →
       LineGets (held_of t runs codes tables z).tables (held_of t runs codes tables z).given (held_of t runs codes tables z).runs work_room
       (ask_line (held_of t runs codes tables z).text (held_of t runs codes tables z).codes (held_of t runs codes tables z).given.stops t
       p.at i) list list' y →
@@ -176,7 +180,7 @@ module _ {t runs codes tables list : List ℕ} {z : Sizes} {p : Turn} (R : Ready
       })
       Q.lines (ap (λ (l : List ℕ). head_of y ++ l) Q.is ∙ sym (append_assoc (head_of y) Q.left Q.rest)))
 
-  module _ {out list' out' : List ℕ} {x : Step} (room : longest_line ≤ length out) {n : ℕ} {s : Stage} (e : x ≡ Printed n s) where
+  module _ {out list' out' : List ℕ} {x : Option Printed} (room : longest_line ≤ length out) {n : ℕ} {s : Stage} (e : x ≡ printing n s) where
     turn_prints : TurnStep (held_of t runs codes tables z) t z p list out list' out' x → (ys : List ℕ) → Prints t runs codes tables list' s ys →
         TurnPrints (held_of t runs codes tables z) t list p (take n out' ++ ys)
     turn_prints (step.ride lt l w) ys P =
@@ -189,13 +193,13 @@ module _ {t runs codes tables list : List ℕ} {z : Sizes} {p : Turn} (R : Ready
         let Q : ys ≡ [] = subst (λ i. Prints t runs codes tables list' i ys) (sym (same_bytes (sym w.is ∙ e)).1) P in
         let b = first_bytes w room n s e in
         lines_only le (unfinished at (ap (λ (l : List ℕ). take n out' ++ l) Q ∙ append-nil (take n out') ∙ b))
-    turn_prints (step.none le at l o f) ys P = let y : ◌≡◌ {A = ℕ} 0 1 = let g = sym e ∙ f in cc in absurd (omega arith)
+    turn_prints (step.none le at l o f) ys P = let g = sym e ∙ f in cc
 
-  turn_over : {out list' out' : List ℕ} {x : Step} → x ≡ Nothing → TurnStep (held_of t runs codes tables z) t z p list out list' out' x →
+  turn_over : {out list' out' : List ℕ} {x : Option Printed} → x ≡ None → TurnStep (held_of t runs codes tables z) t z p list out list' out' x →
       TurnPrints (held_of t runs codes tables z) t list p []
-  turn_over e (step.ride lt l w) = let y : ◌≡◌ {A = ℕ} 0 1 = let g = sym e ∙ w.is in cc in absurd (omega arith)
-  turn_over e (step.line i y le at g w) = let y : ◌≡◌ {A = ℕ} 0 1 = let g = sym e ∙ w.is in cc in absurd (omega arith)
-  turn_over e (step.unfinished le at l w) = let y : ◌≡◌ {A = ℕ} 0 1 = let g = sym e ∙ w.is in cc in absurd (omega arith)
+  turn_over e (step.ride lt l w) = let g = sym e ∙ w.is in cc
+  turn_over e (step.line i y le at g w) = let g = sym e ∙ w.is in cc
+  turn_over e (step.unfinished le at l w) = let g = sym e ∙ w.is in cc
   turn_over e (step.none le at l o f) = lines_only le (none at refl)
 
   -- The other way round: where the turn's rides are printed, the lines are left;
@@ -229,18 +233,18 @@ module _ {t runs codes tables list : List ℕ} {z : Sizes} {p : Turn} (R : Ready
       )
 
   -- and so does the first line of an answer.
-  line_first : {list' : List ℕ} (i : ℕ) (y : RidesAnswer) → piece_at t p.at ≡ piece.Line i →
+  line_first : {list' : List ℕ} (i : ℕ) (y : Result Listed Refusal) → piece_at t p.at ≡ piece.Line i →
       LineGets (held_of t runs codes tables z).tables (held_of t runs codes tables z).given (held_of t runs codes tables z).runs work_room
       (ask_line (held_of t runs codes tables z).text (held_of t runs codes tables z).codes (held_of t runs codes tables z).given.stops t
       p.at i) list list' y →
       {xs : List ℕ} → LinesPrint (LinePrints (held_of t runs codes tables z) t) t p.at xs → (ys : List ℕ) ×
       TurnPrints (held_of t runs codes tables z) t list' (record { at = i + 1; ride = 0; rides = rides_in y }) ys × (xs ≡ head_of y ++ ys)
-  line_first i y at g (none at' is) = let k : ◌≡◌ {A = ℕ} 0 1 = let j = sym at ∙ at' in cc in absurd (omega arith)
-  line_first i y at g (unfinished at' is) = let k : ◌≡◌ {A = ℕ} 0 1 = let j = sym at ∙ at' in cc in absurd (omega arith)
+  line_first i y at g (none at' is) = let j = sym at ∙ at' in cc
+  line_first i y at g (unfinished at' is) = let j = sym at ∙ at' in cc
   line_first {list'} i y at g (line i' ys zs at' f rest is) =
       let j = sym at' ∙ at in
       let e : i' ≡ i = cc in
-      let read : ℕ → LineRead = ask_line (held_of t runs codes tables z).text (held_of t runs codes tables z).codes
+      let read : ℕ → (Result Ask Reason) = ask_line (held_of t runs codes tables z).text (held_of t runs codes tables z).codes
       (held_of t runs codes tables z).given.stops t p.at in
       let o = gets_one (held_of t runs codes tables z).tables (held_of t runs codes tables z).given (held_of t runs codes tables z).runs work_room (read i)
       (replicate last_minute 0) f.list list' f.answer y
@@ -258,11 +262,11 @@ module _ {t runs codes tables list : List ℕ} {z : Sizes} {p : Turn} (R : Ready
           is = refl;
         },
         is ∙ ap (λ (l : List ℕ). l ++ zs) (f.is ∙ printed_is (held_of t runs codes tables z).text codes runs f.list f.answer ∙
-            ap₂ (λ (l : List ℕ) (a : RidesAnswer). head_of a ++ ride_lines (held_of t runs codes tables z).text codes runs l (rides_in a)) o.1 o.0) ∙
+            ap₂ (λ (l : List ℕ) (a : Result Listed Refusal). head_of a ++ ride_lines (held_of t runs codes tables z).text codes runs l (rides_in a)) o.1 o.0) ∙
             append_assoc (head_of y) m zs,
       )
 
-  module _ {out list' out' : List ℕ} {x : Step} (room : longest_line ≤ length out) {n : ℕ} {s : Stage} (e : x ≡ Printed n s) where
+  module _ {out list' out' : List ℕ} {x : Option Printed} (room : longest_line ≤ length out) {n : ℕ} {s : Stage} (e : x ≡ printing n s) where
     turn_first : TurnStep (held_of t runs codes tables z) t z p list out list' out' x → (xs : List ℕ) →
         TurnPrints (held_of t runs codes tables z) t list p xs → (ys : List ℕ) × Prints t runs codes tables list' s ys × (xs ≡ take n out' ++ ys)
     turn_first (step.ride lt l w) xs P =
@@ -276,21 +280,21 @@ module _ {t runs codes tables list : List ℕ} {z : Sizes} {p : Turn} (R : Ready
       subst (λ i. Prints t runs codes tables list' i []) (same_bytes (sym w.is ∙ e)).1 refl,
       unfinished_is at (lines_left le P) ∙ sym (first_bytes w room n s e) ∙ sym (append-nil (take n out')),
     )
-    turn_first (step.none le at l o f) xs P = let y : ◌≡◌ {A = ℕ} 0 1 = let g = sym e ∙ f in cc in absurd (omega arith)
+    turn_first (step.none le at l o f) xs P = let g = sym e ∙ f in cc
 
-module _ (t runs codes tables list out list' out' : List ℕ) {x : Step} where
+module _ (t runs codes tables list out list' out' : List ℕ) {x : Option Printed} where
   -- what is to be printed at a stage is the line that the step wrote, and then what is to be printed after it
   pub step_prints : (s : Stage) → Stands t runs codes tables list s → StepOf t runs codes tables s list out list' out' x → longest_line ≤ length out →
-      (n : ℕ) (s' : Stage) → x ≡ Printed n s' → (ys : List ℕ) → Prints t runs codes tables list' s' ys → Prints t runs codes tables list s (take n out' ++ ys)
+      (n : ℕ) (s' : Stage) → x ≡ printing n s' → (ys : List ℕ) → Prints t runs codes tables list' s' ys → Prints t runs codes tables list s (take n out' ++ ys)
   step_prints (Refused r) R S room n s' e ys P =
       let Q : ys ≡ [] = subst (λ i. Prints t runs codes tables list' i ys) (sym (same_bytes (sym S.0.is ∙ e)).1) P in
       ap (λ (l : List ℕ). take n out' ++ l) Q ∙ append-nil (take n out') ∙ first_bytes S.0 room n s' e
   step_prints (Asks z p) R S room n s' e ys P = turn_prints R room e S ys P
-  step_prints Over R S room n s' e ys P = let y : ◌≡◌ {A = ℕ} 0 1 = let g = sym e ∙ S.0 in cc in absurd (omega arith)
+  step_prints Over R S room n s' e ys P = let g = sym e ∙ S.0 in cc
 
   -- and nothing else is
   pub step_first : (s : Stage) → Stands t runs codes tables list s → StepOf t runs codes tables s list out list' out' x → longest_line ≤ length out →
-      (n : ℕ) (s' : Stage) → x ≡ Printed n s' → (xs : List ℕ) → Prints t runs codes tables list s xs → (ys : List ℕ) ×
+      (n : ℕ) (s' : Stage) → x ≡ printing n s' → (xs : List ℕ) → Prints t runs codes tables list s xs → (ys : List ℕ) ×
       Prints t runs codes tables list' s' ys × (xs ≡ take n out' ++ ys)
   step_first (Refused r) R S room n s' e xs P = (
     [],
@@ -298,50 +302,49 @@ module _ (t runs codes tables list out list' out' : List ℕ) {x : Step} where
     P ∙ sym (first_bytes S.0 room n s' e) ∙ sym (append-nil (take n out')),
   )
   step_first (Asks z p) R S room n s' e xs P = turn_first R room e S xs P
-  step_first Over R S room n s' e xs P = let y : ◌≡◌ {A = ℕ} 0 1 = let g = sym e ∙ S.0 in cc in absurd (omega arith)
+  step_first Over R S room n s' e xs P = let g = sym e ∙ S.0 in cc
 
   -- and nothing where the step wrote no line
-  pub step_over : (s : Stage) → Stands t runs codes tables list s → StepOf t runs codes tables s list out list' out' x → x ≡ Nothing →
+  pub step_over : (s : Stage) → Stands t runs codes tables list s → StepOf t runs codes tables s list out list' out' x → x ≡ None →
       Prints t runs codes tables list s []
-  step_over (Refused r) R S e = let y : ◌≡◌ {A = ℕ} 0 1 = let g = sym e ∙ S.0.is in cc in absurd (omega arith)
+  step_over (Refused r) R S e = let g = sym e ∙ S.0.is in cc
   step_over (Asks z p) R S e = turn_over R e S
   step_over Over R S e = refl
 
 -- a line is no longer than the room for a line
-pub few_bytes : (t runs codes tables : List ℕ) (s : Stage) (list out list' out' : List ℕ) {x : Step} → StepOf t runs codes tables s list out list' out' x →
-    (n : ℕ) (s' : Stage) → x ≡ Printed n s' → n ≤ longest_line
+pub few_bytes : (t runs codes tables : List ℕ) (s : Stage) (list out list' out' : List ℕ) {x : Option Printed} →
+    StepOf t runs codes tables s list out list' out' x → (n : ℕ) (s' : Stage) → x ≡ printing n s' → n ≤ longest_line
 few_bytes t runs codes tables (Refused r) list out list' out' S n s' e = omega (arith, S.0.short, (same_bytes (sym S.0.is ∙ e)).0)
 few_bytes t runs codes tables (Asks z p) list out list' out' (step.ride lt l w) n s' e = omega (arith, w.short, (same_bytes (sym w.is ∙ e)).0)
 few_bytes t runs codes tables (Asks z p) list out list' out' (step.line i y le at g w) n s' e = omega (arith, w.short, (same_bytes (sym w.is ∙ e)).0)
 few_bytes t runs codes tables (Asks z p) list out list' out' (step.unfinished le at l w) n s' e = omega (arith, w.short, (same_bytes (sym w.is ∙ e)).0)
-few_bytes t runs codes tables (Asks z p) list out list' out' (step.none le at l o f) n s' e = let y : ◌≡◌ {A = ℕ} 0 1 = let g = sym e ∙ f in cc in
-    absurd (omega arith)
-few_bytes t runs codes tables Over list out list' out' S n s' e = let y : ◌≡◌ {A = ℕ} 0 1 = let g = sym e ∙ S.0 in cc in absurd (omega arith)
+few_bytes t runs codes tables (Asks z p) list out list' out' (step.none le at l o f) n s' e = let g = sym e ∙ f in cc
+few_bytes t runs codes tables Over list out list' out' S n s' e = let g = sym e ∙ S.0 in cc
 
 -- and a line has bytes
-head_some : (y : RidesAnswer) → 0 < length (head_of y)
-head_some (rides.At j) = at_some j.dep j.arr j.rides
-head_some (rides.No r) = no_some r.number
+head_some : (y : Result Listed Refusal) → 0 < length (head_of y)
+head_some (Ok j) = at_some j.dep j.arr j.rides
+head_some (Err r) = no_some (number_of r.reason)
 
-writes_some : {out xs out' : List ℕ} {s : Stage} {x : Step} → Writes out xs s out' x → 0 < length xs → (n : ℕ) (s' : Stage) → x ≡ Printed n s' → 0 < n
+writes_some : {out xs out' : List ℕ} {s : Stage} {x : Option Printed} → Writes out xs s out' x → 0 < length xs → (n : ℕ) (s' : Stage) →
+    x ≡ printing n s' → 0 < n
 writes_some w h n s' e = omega (arith, w.wrote.end, (same_bytes (sym w.is ∙ e)).0)
 
-pub some_bytes : (t runs codes tables : List ℕ) (s : Stage) (list out list' out' : List ℕ) {x : Step} → StepOf t runs codes tables s list out list' out' x →
-    (n : ℕ) (s' : Stage) → x ≡ Printed n s' → 0 < n
+pub some_bytes : (t runs codes tables : List ℕ) (s : Stage) (list out list' out' : List ℕ) {x : Option Printed} →
+    StepOf t runs codes tables s list out list' out' x → (n : ℕ) (s' : Stage) → x ≡ printing n s' → 0 < n
 some_bytes t runs codes tables (Refused r) list out list' out' S n s' e = writes_some S.0 (no_place_some _ _) n s' e
 some_bytes t runs codes tables (Asks z p) list out list' out' (step.ride lt l w) n s' e = writes_some w (ride_some _ _ _ _ _ _) n s' e
 some_bytes t runs codes tables (Asks z p) list out list' out' (step.line i y le at g w) n s' e = writes_some w (head_some y) n s' e
-some_bytes t runs codes tables (Asks z p) list out list' out' (step.unfinished le at l w) n s' e = writes_some w (no_some line_shape) n s' e
-some_bytes t runs codes tables (Asks z p) list out list' out' (step.none le at l o f) n s' e = let y : ◌≡◌ {A = ℕ} 0 1 = let g = sym e ∙ f in cc in
-    absurd (omega arith)
-some_bytes t runs codes tables Over list out list' out' S n s' e = let y : ◌≡◌ {A = ℕ} 0 1 = let g = sym e ∙ S.0 in cc in absurd (omega arith)
+some_bytes t runs codes tables (Asks z p) list out list' out' (step.unfinished le at l w) n s' e = writes_some w (no_some (number_of reason.LineShape)) n s' e
+some_bytes t runs codes tables (Asks z p) list out list' out' (step.none le at l o f) n s' e = let g = sym e ∙ f in cc
+some_bytes t runs codes tables Over list out list' out' S n s' e = let g = sym e ∙ S.0 in cc
 
 -- ---- no second step, no second list and no second bytes meet the contract
 
-writes_one : {out xs o o' : List ℕ} {s : Stage} {x y : Step} → Writes out xs s o x → Writes out xs s o' y → (x ≡ y) × (o ≡ o')
-writes_one {s = s} w v = let e = wrote_one w.wrote v.wrote in (w.is ∙ ap (λ (n : ℕ). Printed n s) e.1 ∙ sym v.is, e.0)
+writes_one : {out xs o o' : List ℕ} {s : Stage} {x y : Option Printed} → Writes out xs s o x → Writes out xs s o' y → (x ≡ y) × (o ≡ o')
+writes_one {s = s} w v = let e = wrote_one w.wrote v.wrote in (w.is ∙ ap (λ (n : ℕ). printing n s) e.1 ∙ sym v.is, e.0)
 
-turn_same : {h : Held} {t : List ℕ} {z : Sizes} {p : Turn} {list out l m o n : List ℕ} {x y : Step} → TurnStep h t z p list out l o x →
+turn_same : {h : Held} {t : List ℕ} {z : Sizes} {p : Turn} {list out l m o n : List ℕ} {x y : Option Printed} → TurnStep h t z p list out l o x →
     TurnStep h t z p list out m n y →
     (x ≡ y) × (l ≡ m) × (o ≡ n)
 turn_same (step.ride lt l w) (step.ride lt' l' w') = let e = writes_one w w' in (e.0, l ∙ sym l', e.1)
@@ -356,20 +359,21 @@ turn_same {h} {t} {z} {p} {list} {out} {l} {m} {o} {n} {x} {y} (step.line i q le
     let b = gets_one h.tables h.given h.runs work_room read list l m q q' g
     (subst (λ (k : ℕ). LineGets h.tables h.given h.runs work_room (ask_line h.text h.codes h.given.stops t p.at k) list m q') e g') in
     let v = writes_one w
-    (subst₂ (λ (k : ℕ) (a : RidesAnswer). Writes out (head_of a) (Asks z (record { at = k + 1; ride = 0; rides = rides_in a })) n y) e (sym b.0) w') in
+    (subst₂ (λ (k : ℕ) (a : Result Listed Refusal). Writes out (head_of a) (Asks z (record { at = k + 1; ride = 0; rides = rides_in a })) n y)
+    e (sym b.0) w') in
     (v.0, b.1, v.1)
-turn_same (step.line i q le at g w) (step.unfinished le' at' l' w') = let k : ◌≡◌ {A = ℕ} 0 1 = let j = sym at ∙ at' in cc in absurd (omega arith)
-turn_same (step.line i q le at g w) (step.none le' at' l' o' f') = let k : ◌≡◌ {A = ℕ} 0 1 = let j = sym at ∙ at' in cc in absurd (omega arith)
+turn_same (step.line i q le at g w) (step.unfinished le' at' l' w') = let j = sym at ∙ at' in cc
+turn_same (step.line i q le at g w) (step.none le' at' l' o' f') = let j = sym at ∙ at' in cc
 turn_same (step.unfinished le at l w) (step.ride lt' l' w') = absurd (omega arith)
-turn_same (step.unfinished le at l w) (step.line i' q' le' at' g' w') = let k : ◌≡◌ {A = ℕ} 0 1 = let j = sym at ∙ at' in cc in absurd (omega arith)
+turn_same (step.unfinished le at l w) (step.line i' q' le' at' g' w') = let j = sym at ∙ at' in cc
 turn_same (step.unfinished le at l w) (step.unfinished le' at' l' w') = let e = writes_one w w' in (e.0, l ∙ sym l', e.1)
-turn_same (step.unfinished le at l w) (step.none le' at' l' o' f') = let k : ◌≡◌ {A = ℕ} 0 1 = let j = sym at ∙ at' in cc in absurd (omega arith)
+turn_same (step.unfinished le at l w) (step.none le' at' l' o' f') = let j = sym at ∙ at' in cc
 turn_same (step.none le at l o f) (step.ride lt' l' w') = absurd (omega arith)
-turn_same (step.none le at l o f) (step.line i' q' le' at' g' w') = let k : ◌≡◌ {A = ℕ} 0 1 = let j = sym at ∙ at' in cc in absurd (omega arith)
-turn_same (step.none le at l o f) (step.unfinished le' at' l' w') = let k : ◌≡◌ {A = ℕ} 0 1 = let j = sym at ∙ at' in cc in absurd (omega arith)
+turn_same (step.none le at l o f) (step.line i' q' le' at' g' w') = let j = sym at ∙ at' in cc
+turn_same (step.none le at l o f) (step.unfinished le' at' l' w') = let j = sym at ∙ at' in cc
 turn_same (step.none le at l o f) (step.none le' at' l' o' f') = (f ∙ sym f', l ∙ sym l', o ∙ sym o')
 
-pub step_one : (t runs codes tables : List ℕ) (s : Stage) (list out l m o n : List ℕ) (x y : Step) → StepOf t runs codes tables s list out l o x →
+pub step_one : (t runs codes tables : List ℕ) (s : Stage) (list out l m o n : List ℕ) (x y : Option Printed) → StepOf t runs codes tables s list out l o x →
     StepOf t runs codes tables s list out m n y → (x ≡ y) × (l ≡ m) × (o ≡ n)
 step_one t runs codes tables (Refused r) list out l m o n x y S T = let e = writes_one S.0 T.0 in (e.0, S.1 ∙ sym T.1, e.1)
 step_one t runs codes tables (Asks z p) list out l m o n x y S T = turn_same S T

@@ -1,10 +1,9 @@
 -- One step of the program: which line comes next, and what is to be printed after it.
-use Rattle.std.specs.Prelude.{ℕ, ◌+◌, ◌≤◌, ◌<◌, ◌≡◌, List, length, take, get_or}
+use Rattle.std.specs.Prelude.{ℕ, ◌+◌, ◌≤◌, ◌<◌, ◌≡◌, List, length, take, get_or, None, Option, Result, Some}
+use Rattle.kinds.specs.Refusals.{number_of}
 use Rattle.kinds.specs.Limits.{most_text, most_input, runs_room, last_minute}
-use Rattle.kinds.specs.Refusals.{line_shape}
 use Rattle.timetable.specs.Numbers.{run_at}
 use Rattle.reader.specs.Text.{GoodRead}
-use Rattle.rides.specs.declared.RidesAnswer.{RidesAnswer}
 use Rattle.both.specs.Both.{work_room}
 use Rattle.askline.specs.declared.Piece.TheVariants as piece
 use Rattle.askline.specs.AskLine.{ask_line}
@@ -17,36 +16,42 @@ use Rattle.journey_lines.specs.declared.Sizes.{Sizes}
 use Rattle.journey_lines.specs.declared.Turn.{Turn}
 use Rattle.journey_lines.specs.declared.Stage.{Stage}
 use Rattle.journey_lines.specs.declared.Stage.TheVariants.{Refused, Asks, Over}
-use Rattle.journey_lines.specs.declared.Step.{Step}
-use Rattle.journey_lines.specs.declared.Step.TheVariants.{Printed, Nothing}
+use Rattle.kinds.specs.declared.Reason.TheVariants as reason
+use Rattle.rides.specs.declared.Listed.{Listed}
+use Rattle.kinds.specs.declared.Refusal.{Refusal}
+use Rattle.journey_lines.specs.declared.Printed.{Printed}
 
 -- The list of rides was `list` and is `list'`, the buffer was `out` and is `out'`.
 
+-- a line of so many bytes, and what is to be printed after it
+abbrev pub printing : ℕ → Stage → Option Printed
+printing n s = Some (record { bytes = n; after = s })
+
 -- The line xs was written into the buffer; s is to be printed after it.
-pub record Writes (out : List ℕ) (xs : List ℕ) (s : Stage) (out' : List ℕ) (x : Step) : Type 0 where
+pub record Writes (out : List ℕ) (xs : List ℕ) (s : Stage) (out' : List ℕ) (x : Option Printed) : Type 0 where
   pub bytes : ℕ
   pub wrote : Wrote out 0 xs out' bytes
   pub short : bytes ≤ longest_line
-  pub is : x ≡ Printed bytes s
+  pub is : x ≡ printing bytes s
 
 -- The turn is that of the next listed ride, or of the line at `at`. An ask that is refused ends nothing: the line after it is next.
-pub data TurnStep (h : Held) (t : List ℕ) (z : Sizes) (p : Turn) (list out list' out' : List ℕ) (x : Step) : Type 0 where
+pub data TurnStep (h : Held) (t : List ℕ) (z : Sizes) (p : Turn) (list out list' out' : List ℕ) (x : Option Printed) : Type 0 where
   ride : p.ride < p.rides → list' ≡ list →
       Writes out (ride_line_of h.text h.codes (run_at h.runs (get_or list p.ride 0)))
       (Asks z (record { at = p.at; ride = p.ride + 1; rides = p.rides })) out' x →
       TurnStep h t z p list out list' out' x
-  line : (e : ℕ) (y : RidesAnswer) → p.rides ≤ p.ride → piece_at t p.at ≡ piece.Line e →
+  line : (e : ℕ) (y : Result Listed Refusal) → p.rides ≤ p.ride → piece_at t p.at ≡ piece.Line e →
       LineGets h.tables h.given h.runs work_room (ask_line h.text h.codes h.given.stops t p.at e) list list' y →
       Writes out (head_of y) (Asks z (record { at = e + 1; ride = 0; rides = rides_in y })) out' x → TurnStep h t z p list out list' out' x
-  unfinished : p.rides ≤ p.ride → piece_at t p.at ≡ piece.Unfinished → list' ≡ list → Writes out (no_line line_shape) Over out' x →
+  unfinished : p.rides ≤ p.ride → piece_at t p.at ≡ piece.Unfinished → list' ≡ list → Writes out (no_line (number_of reason.LineShape)) Over out' x →
       TurnStep h t z p list out list' out' x
-  none : p.rides ≤ p.ride → piece_at t p.at ≡ piece.Done → list' ≡ list → out' ≡ out → x ≡ Nothing → TurnStep h t z p list out list' out' x
+  none : p.rides ≤ p.ride → piece_at t p.at ≡ piece.Done → list' ≡ list → out' ≡ out → x ≡ None → TurnStep h t z p list out list' out' x
 
 -- nothing follows a refusal's line
-abbrev pub StepOf : List ℕ → List ℕ → List ℕ → List ℕ → Stage → List ℕ → List ℕ → List ℕ → List ℕ → Step → Type 0
+abbrev pub StepOf : List ℕ → List ℕ → List ℕ → List ℕ → Stage → List ℕ → List ℕ → List ℕ → List ℕ → Option Printed → Type 0
 StepOf t runs codes tables (Refused r) list out list' out' x = Writes out (refused_line r) Over out' x × (list' ≡ list)
 StepOf t runs codes tables (Asks z p) list out list' out' x = TurnStep (held_of t runs codes tables z) t z p list out list' out' x
-StepOf t runs codes tables Over list out list' out' x = (x ≡ Nothing) × (list' ≡ list) × (out' ≡ out)
+StepOf t runs codes tables Over list out list' out' x = (x ≡ None) × (list' ≡ list) × (out' ≡ out)
 
 -- a text and its asks, one behind the other, have no more bytes
 abbrev pub most_held : ℕ

@@ -15,11 +15,11 @@ ghost use Rattle.journey_lines.specs.Output.{read_input, StartOf, held_of};
 ghost use Rattle.journey_lines.specs.Steps.{Writes, TurnStep, StepOf, most_held, Ready, Stands};
 
 use askline::Piece;
-use builder::BuildAnswer;
-use kinds::{Refusal, Text};
-use reader::ReadAnswer;
-use rides::RidesAnswer;
+use kinds::{Reason, Refusal, Text};
+use reader::Counts;
+use rides::Listed;
 use timetable::Given;
+use words::Stretch;
 
 // How much of each room is in use: stops and runs, bytes of the text and of the tables.
 #[derive(Clone, Copy)]
@@ -54,15 +54,15 @@ pub enum Stage {
     Over,
 }
 
-// A line of so many bytes, and what is to be printed after it; or nothing more.
+// A line of so many bytes, and what is to be printed after it.
 #[derive(Clone, Copy)]
-pub enum Step {
-    Printed(usize, Stage),
-    Nothing,
+pub struct Printed {
+    pub bytes: usize,
+    pub after: Stage,
 }
 
 // The timetable of the input. More than the program holds is refused, whatever it is.
-fn read_input(input: &[u8], runs: &mut [u32], codes: &mut [u32]) -> ReadAnswer
+fn read_input(input: &[u8], runs: &mut [u32], codes: &mut [u32]) -> Result<Counts, Refusal>
     ensures value { result ≡ answer_of (read_input input.now (length runs.old) (length codes.old)) }
     ensures runs_after { runs.new ≡ runs_of (read_input input.now (length runs.old) (length codes.old))
         (length runs.old) }
@@ -70,9 +70,9 @@ fn read_input(input: &[u8], runs: &mut [u32], codes: &mut [u32]) -> ReadAnswer
         (length codes.old) }
 {
     if Text::INPUT_MOST < input.len() {
-        loops::zero_u32(runs);
-        loops::zero_u32(codes);
-        return ReadAnswer::No(Refusal::new(Refusal::OVER_LIMIT, 0));
+        loops::zero(runs);
+        loops::zero(codes);
+        return Err(Refusal::new(Reason::OverLimit, 0));
     }
     let end = askline::timetable_end(input);
     reader::read(&input[..end], runs, codes)
@@ -95,39 +95,35 @@ pub fn start(
     ensures work_after { work.new ≡ zeros work.old }
     ensures are_bytes { AreBytes tables.new }
 {
-    let read = read_input(input, runs, codes);
-    match read {
-        ReadAnswer::No(r) => {
-            loops::zero_u8(tables);
-            loops::zero_u16(work);
-            Stage::Refused(r)
+    let counts = match read_input(input, runs, codes) {
+        Ok(counts) => counts,
+        Err(r) => {
+            loops::zero(tables);
+            loops::zero(work);
+            return Stage::Refused(r);
         }
-        ReadAnswer::Read(counts) => {
-            let given = Given {
-                stops: counts.stops,
-                runs: counts.runs,
-            };
-            let built = builder::build(given, runs, tables, work);
-            match built {
-                BuildAnswer::No(r) => Stage::Refused(r),
-                BuildAnswer::Built(length, _) => {
-                    let end = askline::timetable_end(input);
-                    let bytes = length as usize;
-                    Stage::Asks(
-                        Sizes {
-                            given,
-                            text: end,
-                            tables: bytes,
-                        },
-                        Turn::new(end, 0),
-                    )
-                }
-            }
+    };
+    let given = Given {
+        stops: counts.stops,
+        runs: counts.runs,
+    };
+    match builder::build(given, runs, tables, work) {
+        Err(r) => Stage::Refused(r),
+        Ok(made) => {
+            let text = askline::timetable_end(input);
+            Stage::Asks(
+                Sizes {
+                    given,
+                    text,
+                    tables: made.length as usize,
+                },
+                Turn::new(text, 0),
+            )
         }
     }
 }
 
-// The line of the next listed ride.
+// The line of the next listed ride; there always is one.
 fn ride_step(
     input: &[u8],
     runs: &[u32],
@@ -136,7 +132,7 @@ fn ride_step(
     p: Turn,
     list: &[u32],
     out: &mut [u8],
-) -> Step
+) -> Option<Printed>
     requires longest_line_in_bounds { longest_line ≤ length out.old }
     requires ride_lt_rides { p.ride < p.rides }
     requires text_in_bounds { z.text ≤ length input.now }
@@ -146,29 +142,27 @@ fn ride_step(
         (Stage.Asks z (record { at = p.at; ride = p.ride + 1; rides = p.rides })) out.new result }
 {
     let text = z.text;
-    let n = answers::ride(out, &input[..text], codes, runs, list, p.ride as usize);
-    Step::Printed(
-        n,
-        Stage::Asks(
-            z,
-            Turn {
-                at: p.at,
-                ride: p.ride + 1,
-                rides: p.rides,
-            },
-        ),
-    )
+    let bytes = answers::ride(out, &input[..text], codes, runs, list, p.ride as usize);
+    let turn = Turn {
+        at: p.at,
+        ride: p.ride + 1,
+        rides: p.rides,
+    };
+    Some(Printed {
+        bytes,
+        after: Stage::Asks(z, turn),
+    })
 }
 
 // After the first line of an answer the rides that it lists have their turn, and then the line after the ask's LF, which stands at `end`. An ask that
 // is refused lists none, and ends nothing.
-fn turn_after(answer: RidesAnswer, end: usize) -> Turn
+fn turn_after(answer: Result<Listed, Refusal>, end: usize) -> Turn
     requires { end < most_held }
     ensures { result ≡ record { at = end + 1; ride = 0; rides = rides_in answer } }
 {
     match answer {
-        RidesAnswer::At(j) => Turn::new(end + 1, j.rides),
-        RidesAnswer::No(_) => Turn::new(end + 1, 0),
+        Ok(j) => Turn::new(end + 1, j.rides),
+        Err(_) => Turn::new(end + 1, 0),
     }
 }
 
@@ -183,7 +177,7 @@ fn line_step(
     end: usize,
     list: &mut [u32],
     out: &mut [u8],
-) -> Step
+) -> Option<Printed>
     requires longest_line_in_bounds { longest_line ≤ length out.old }
     requires ready { Ready input.now runs.now codes.now tables.now list.old z p }
     requires rides_le_ride { p.rides ≤ p.ride }
@@ -194,24 +188,30 @@ fn line_step(
     let text = z.text;
     let length = z.tables;
     let mut work = [0u16; both::ROOM];
+    let line = Stretch {
+        text: input,
+        from: p.at,
+        to: end,
+    };
     let answer = answers::answer(
         &input[..text],
         codes,
         z.given,
         runs,
         &tables[..length],
-        input,
-        p.at,
-        end,
+        line,
         list,
         &mut work,
     );
-    let n = answers::head(out, answer);
-    let after = turn_after(answer, end);
-    Step::Printed(n, Stage::Asks(z, after))
+    let bytes = answers::head(out, answer);
+    let turn = turn_after(answer, end);
+    Some(Printed {
+        bytes,
+        after: Stage::Asks(z, turn),
+    })
 }
 
-// The next listed ride, or else the next line.
+// The next listed ride, or else the next line; `None` where nothing more is to be printed.
 fn turn_step(
     input: &[u8],
     runs: &[u32],
@@ -221,7 +221,7 @@ fn turn_step(
     p: Turn,
     list: &mut [u32],
     out: &mut [u8],
-) -> Step
+) -> Option<Printed>
     requires longest_line_in_bounds { longest_line ≤ length out.old }
     requires ready { Ready input.now runs.now codes.now tables.now list.old z p }
     ensures { TurnStep (held_of input.now runs.now codes.now tables.now z) input.now z p
@@ -230,18 +230,20 @@ fn turn_step(
     if p.ride < p.rides {
         return ride_step(input, runs, codes, z, p, list, out);
     }
-    let piece = askline::piece_at(input, p.at);
-    match piece {
+    match askline::piece_at(input, p.at) {
         Piece::Line(end) => line_step(input, runs, codes, tables, z, p, end, list, out),
         Piece::Unfinished => {
-            let n = printed::no_line(out, Refusal::LINE_SHAPE);
-            Step::Printed(n, Stage::Over)
+            let bytes = printed::no_line(out, Reason::LineShape.number());
+            Some(Printed {
+                bytes,
+                after: Stage::Over,
+            })
         }
-        Piece::Done => Step::Nothing,
+        Piece::Done => None,
     }
 }
 
-// The next line of the output, if there is one. Nothing follows a refused timetable or build.
+// The next line of the output; `None` where there is none. Nothing follows a refused timetable or build.
 pub fn next(
     input: &[u8],
     runs: &[u32],
@@ -250,7 +252,7 @@ pub fn next(
     stage: Stage,
     list: &mut [u32],
     out: &mut [u8],
-) -> Step
+) -> Option<Printed>
     requires longest_line_in_bounds { longest_line ≤ length out.old }
     requires stands { Stands input.now runs.now codes.now tables.now list.old stage }
     ensures { StepOf input.now runs.now codes.now tables.now stage
@@ -258,10 +260,13 @@ pub fn next(
 {
     match stage {
         Stage::Refused(r) => {
-            let n = printed::no_place_line(out, r.number, r.place);
-            Step::Printed(n, Stage::Over)
+            let bytes = printed::no_place_line(out, r.reason.number(), r.place);
+            Some(Printed {
+                bytes,
+                after: Stage::Over,
+            })
         }
         Stage::Asks(z, p) => turn_step(input, runs, codes, tables, z, p, list, out),
-        Stage::Over => Step::Nothing,
+        Stage::Over => None,
     }
 }

@@ -3,7 +3,7 @@
 #![tactic(auto)]
 
 // A ride leaves the stop `from` at minute `dep` and arrives at the stop `to` at minute `arr`.
-#[derive(Clone, Copy)]
+#[derive(Clone, Copy, PartialEq, Eq)]
 pub struct Ride {
     pub from: u16,
     pub to: u16,

@@ -1,19 +1,14 @@
 -- What the constructors' good answers say, for those who call them.
-use Rattle.std.specs.Prelude.{ℕ, ◌≤◌, ◌<◌, ◌≡◌, refl, Bool, true, false, cond, ◌⊎◌, ltb, leb, eqb}
+use Rattle.std.specs.Prelude.{ℕ, ◌≤◌, ◌<◌, ◌≡◌, refl, Bool, true, false, cond, ◌⊎◌, ltb, leb, eqb, None, Ok, Option, Some}
 use Rattle.std.proofs.Common.{inl, inr, arith, ltb-true, ltb-false, leb-true, leb-false, eqb-true, lt-ltb, le-ltb, le-leb, eq-eqb, ne_eqb}
 use Rattle.std.proofs.Math.Decide.{ℕ_discrete}
 use Rattle.std.proofs.lemmas.Bool.{eqb-false, lt-leb}
 use Rattle.loops.specs.ChainLaws.{past, stays, either}
 use Rattle.kinds.specs.Limits.{most_stops, most_runs, no_pivot, last_minute, most_trip, most_code}
 use Rattle.kinds.specs.Kinds.{is_stop_count, is_run_count, stop_of, minute_of, run_of, label_of, is_code_length, RunRefusal, GoodRun, GoodPivot, GoodLabel}
-use Rattle.kinds.specs.declared.StopRead.TheVariants as stop
 use Rattle.kinds.specs.declared.Stop.{Stop}
-use Rattle.kinds.specs.declared.MinuteRead.TheVariants as minute
 use Rattle.kinds.specs.declared.Run.{Run}
-use Rattle.kinds.specs.declared.RunRead.TheVariants as run
 use Rattle.kinds.specs.declared.Label.{Label}
-use Rattle.kinds.specs.declared.LabelRead.{LabelRead}
-use Rattle.kinds.specs.declared.LabelRead.TheVariants as label
 
 pub count_is : (n : ℕ) → 1 ≤ n → n ≤ most_stops → is_stop_count n ≡ true
 unfolding is_stop_count
@@ -38,7 +33,7 @@ pub run_count : (n : ℕ) → is_run_count n ≡ true → n ≤ most_runs
 unfolding is_run_count
 run_count n e = leb-true n most_runs e
 
-pub stop_good : (n count : ℕ) (s : Stop) → stop_of n count ≡ stop.Good s → (s.0 ≡ n) × (n < count)
+pub stop_good : (n count : ℕ) (s : Stop) → stop_of n count ≡ Some s → (s.0 ≡ n) × (n < count)
 unfolding stop_of
 stop_good n count s e =
     let z = stays (ltb n count) e (λ x. let y : ◌≡◌ {A = ℕ} 0 1 = cc in omega arith) in
@@ -46,23 +41,23 @@ stop_good n count s e =
     (cc, ltb-true n count z.0)
 
 -- a number is a stop exactly where it is below the count, and a minute exactly up to the last one
-pub stop_is : (n count : ℕ) → n < count → stop_of n count ≡ stop.Good (record { 0 = n })
+pub stop_is : (n count : ℕ) → n < count → stop_of n count ≡ Some (record { 0 = n })
 unfolding stop_of
 stop_is n count h = rw (lt-ltb n count h) refl
 
-pub stop_bad : (n count : ℕ) → count ≤ n → stop_of n count ≡ stop.Bad
+pub stop_bad : (n count : ℕ) → count ≤ n → stop_of n count ≡ None
 unfolding stop_of
 stop_bad n count h = rw (le-ltb n count h) refl
 
-pub minute_is : (n : ℕ) → n ≤ last_minute → minute_of n ≡ minute.Good (record { 0 = n })
+pub minute_is : (n : ℕ) → n ≤ last_minute → minute_of n ≡ Some (record { 0 = n })
 unfolding minute_of
 minute_is n h = rw (le-leb n last_minute h) refl
 
-pub minute_bad : (n : ℕ) → last_minute < n → minute_of n ≡ minute.Bad
+pub minute_bad : (n : ℕ) → last_minute < n → minute_of n ≡ None
 unfolding minute_of
 minute_bad n h = rw (lt-leb n last_minute h) refl
 
-pub run_good : (stops from to dep arr t : ℕ) (r : Run) → run_of stops from to dep arr t ≡ run.Good r →
+pub run_good : (stops from to dep arr t : ℕ) (r : Run) → run_of stops from to dep arr t ≡ Ok r →
     GoodRun stops from to dep arr t × (r ≡ record { from = from; to = to; dep = dep; arr = arr; trip = t })
 unfolding run_of
 run_good stops from to dep arr t r e =
@@ -99,7 +94,7 @@ run_refusal stops from to dep arr t =
 
 -- and a good run is read as it is
 pub run_is : (stops from to dep arr t : ℕ) → GoodRun stops from to dep arr t →
-    run_of stops from to dep arr t ≡ run.Good (record { from = from; to = to; dep = dep; arr = arr; trip = t })
+    run_of stops from to dep arr t ≡ Ok (record { from = from; to = to; dep = dep; arr = arr; trip = t })
 unfolding run_of
 run_is stops from to dep arr t g =
     rw (
@@ -112,7 +107,7 @@ run_is stops from to dep arr t g =
       le-ltb most_trip t g.trip_most,
     ) refl
 
-pub label_good : (stops owner hub dep arr pivot : ℕ) (l : Label) → label_of stops owner hub dep arr pivot ≡ label.Good l →
+pub label_good : (stops owner hub dep arr pivot : ℕ) (l : Label) → label_of stops owner hub dep arr pivot ≡ Some l →
     GoodLabel stops owner hub dep arr pivot × (l ≡ record { hub = hub; dep = dep; arr = arr; pivot = pivot })
 unfolding label_of
 label_good stops owner hub dep arr pivot l e =
@@ -121,11 +116,11 @@ label_good stops owner hub dep arr pivot l e =
     let z₃ = past (ltb last_minute arr) z₂.1 (λ x. let y : ◌≡◌ {A = ℕ} 0 1 = cc in omega arith) in
     go (leb-false owner hub z₁.0) (leb-false arr dep z₂.0) (ltb-false last_minute arr z₃.0) (eqb pivot no_pivot) (eqb-true pivot no_pivot) z₃.1
   where
-    good : LabelRead
-    good = label.Good (record { hub = hub; dep = dep; arr = arr; pivot = pivot })
+    good : Option Label
+    good = Some (record { hub = hub; dep = dep; arr = arr; pivot = pivot })
 
     go : hub < owner → dep < arr → arr ≤ last_minute → (b : Bool) → (b ≡ true → pivot ≡ no_pivot) →
-        cond b good (cond (leb pivot hub) label.Bad (cond (leb stops pivot) label.Bad (cond (eqb pivot owner) label.Bad good))) ≡ label.Good l →
+        cond b good (cond (leb pivot hub) None (cond (leb stops pivot) None (cond (eqb pivot owner) None good))) ≡ Some l →
         GoodLabel stops owner hub dep arr pivot × (l ≡ record { hub = hub; dep = dep; arr = arr; pivot = pivot })
     go h₁ h₂ h₃ true p f = (record { low = h₁; later = h₂; last = h₃; pivoted = inl (p refl) }, cc)
     go h₁ h₂ h₃ false p f =
@@ -144,12 +139,12 @@ label_good stops owner hub dep arr pivot l e =
 
 -- and a good label is read as it is
 pub label_is : (stops owner hub dep arr pivot : ℕ) → GoodLabel stops owner hub dep arr pivot →
-    label_of stops owner hub dep arr pivot ≡ label.Good (record { hub = hub; dep = dep; arr = arr; pivot = pivot })
+    label_of stops owner hub dep arr pivot ≡ Some (record { hub = hub; dep = dep; arr = arr; pivot = pivot })
 unfolding label_of
 label_is stops owner hub dep arr pivot g = go (ℕ_discrete pivot no_pivot) g.pivoted
   where
     go : Dec (pivot ≡ no_pivot) → (pivot ≡ no_pivot) ⊎ GoodPivot stops owner hub pivot →
-        label_of stops owner hub dep arr pivot ≡ label.Good (record { hub = hub; dep = dep; arr = arr; pivot = pivot })
+        label_of stops owner hub dep arr pivot ≡ Some (record { hub = hub; dep = dep; arr = arr; pivot = pivot })
     go (yes e) q = rw (lt-leb owner hub g.low, lt-leb arr dep g.later, le-ltb last_minute arr g.last, eq-eqb pivot no_pivot e)
     go (no ne) (inl e) = absurd (ne e)
     go (no ne) (inr q) =

@@ -1,100 +1,58 @@
--- "Numbers given back": the refusal numbers, with the names that the code has for them.
+-- "Numbers given back": the number of each reason, with what is refused and its place.
 use Rattle.std.specs.Prelude.{ℕ, List, [], ◌∷◌}
+use Rattle.kinds.specs.declared.Reason.{Reason}
+use Rattle.kinds.specs.declared.Reason.TheVariants as reason
 use Rattle.kinds.specs.declared.Refusal.{Refusal}
 
+abbrev pub number_of : Reason → ℕ
 -- first line wrong; place: line 1
-abbrev pub first_line : ℕ
-first_line = 1
-
+number_of reason.FirstLine = 1
 -- line shape; place: line
-abbrev pub line_shape : ℕ
-line_shape = 2
-
+number_of reason.LineShape = 2
 -- stop code bad; place: line
-abbrev pub code_bad : ℕ
-code_bad = 3
-
+number_of reason.CodeBad = 3
 -- code repeated; place: line
-abbrev pub code_repeated : ℕ
-code_repeated = 4
-
+number_of reason.CodeRepeated = 4
 -- stop unknown; place: line, or run for given numbers
-abbrev pub stop_unknown : ℕ
-stop_unknown = 5
-
+number_of reason.StopUnknown = 5
 -- run to its own stop; place: line, or run
-abbrev pub own_stop : ℕ
-own_stop = 6
-
+number_of reason.OwnStop = 6
 -- number out of range, or DEP ≥ ARR; place: line, or run
-abbrev pub out_of_range : ℕ
-out_of_range = 7
-
+number_of reason.OutOfRange = 7
 -- more than a limit; place: line, or 0
-abbrev pub over_limit : ℕ
-over_limit = 8
-
+number_of reason.OverLimit = 8
 -- tables: shorter than 2 bytes, byte 0 not 1, or n = 0; place 0
-abbrev pub no_tables : ℕ
-no_tables = 9
-
+number_of reason.NoTables = 9
 -- tables: contents cut short, over 8,192 labels, or length differs; place 0
-abbrev pub tables_length : ℕ
-tables_length = 10
-
+number_of reason.TablesLength = 10
 -- label not good; place: first label
-abbrev pub label_bad : ℕ
-label_bad = 11
-
+number_of reason.LabelBad = 11
 -- stop not below n; place 0
-abbrev pub stop_high : ℕ
-stop_high = 12
-
+number_of reason.StopHigh = 12
 -- same stop twice; place 0
-abbrev pub same_stop : ℕ
-same_stop = 13
-
+number_of reason.SameStop = 13
 -- ask minute over 2,879; place 0
-abbrev pub minute_high : ℕ
-minute_high = 14
-
+number_of reason.MinuteHigh = 14
 -- t > t2; place 0
-abbrev pub minutes_crossed : ℕ
-minutes_crossed = 15
-
+number_of reason.MinutesCrossed = 15
 -- no journey; place 0
-abbrev pub no_journey : ℕ
-no_journey = 16
-
+number_of reason.NoJourney = 16
 -- lent room too short; place 0
-abbrev pub room_short : ℕ
-room_short = 17
-
+number_of reason.RoomShort = 17
 -- rides missing; place 0
-abbrev pub rides_missing : ℕ
-rides_missing = 18
-
+number_of reason.RidesMissing = 18
 -- label unsupported; place: label
-abbrev pub unsupported : ℕ
-unsupported = 19
-
+number_of reason.Unsupported = 19
 -- gap; places: run, stop
-abbrev pub gap : ℕ
-gap = 20
-
+number_of reason.Gap = 20
 -- stop counts differ; place 0
-abbrev pub stops_differ : ℕ
-stops_differ = 21
-
+number_of reason.StopsDiffer = 21
 -- more than 8,192 labels by the rule; place 0
-abbrev pub labels_over : ℕ
-labels_over = 22
+number_of reason.LabelsOver = 22
 
 abbrev pub all_numbers : List ℕ
-all_numbers =
-    first_line ∷ line_shape ∷ code_bad ∷ code_repeated ∷ stop_unknown ∷ own_stop ∷ out_of_range ∷ over_limit ∷ no_tables ∷ tables_length ∷ label_bad ∷
-    stop_high ∷ same_stop ∷ minute_high ∷ minutes_crossed ∷ no_journey ∷ room_short ∷ rides_missing ∷ unsupported ∷ gap ∷ stops_differ ∷ labels_over ∷ []
+all_numbers = 1 ∷ 2 ∷ 3 ∷ 4 ∷ 5 ∷ 6 ∷ 7 ∷ 8 ∷ 9 ∷ 10 ∷ 11 ∷ 12 ∷ 13 ∷ 14 ∷ 15 ∷ 16 ∷ 17 ∷ 18 ∷ 19 ∷ 20 ∷ 21 ∷ 22 ∷ []
 
 -- "A refusal carries number and place only"
-abbrev pub refusal : ℕ → ℕ → Refusal
-refusal n p = record { number = n; place = p; stop = 0 }
+abbrev pub refusal : Reason → ℕ → Refusal
+refusal r p = record { reason = r; place = p; stop = 0 }

@@ -19,19 +19,13 @@ ghost use Rattle.kinds.specs.Limits.{
   most_text,
   most_input,
 };
-ghost use Rattle.kinds.specs.Refusals.{refusal, all_numbers};
+ghost use Rattle.kinds.specs.Refusals.{number_of, all_numbers, refusal};
 ghost use Rattle.kinds.specs.Kinds.{stop_of, is_stop_count, minute_of, trip_of, is_run_count, run_of, label_of, is_code_byte, is_code_length};
 
 // ---- Stops: 1 to 255, numbered from 0 in rank order.
 
 #[derive(Clone, Copy)]
 pub struct Stop(pub u16);
-
-#[derive(Clone, Copy)]
-pub enum StopRead {
-    Good(Stop),
-    Bad,
-}
 
 impl Stop {
     pub const MOST: usize = 255;
@@ -53,24 +47,23 @@ impl Stop {
     }
 
     // Whether there can be so many stops.
+    #[tactic(auto, unfolding(crate::specs::Kinds::is_stop_count), using(std::proofs::lemmas::Bool::Decides::nat_tests))]
     pub fn is_count(n: u32) -> bool
         ensures { result ≡ is_stop_count n }
     {
-        if n == 0 {
-            return false;
-        }
-        (n as usize) <= Stop::MOST
+        n != 0 && (n as usize) <= Stop::MOST
     }
 
     // The stop of this number, of `count` stops.
-    pub fn new(n: u32, count: u32) -> StopRead
+    #[tactic(auto, unfolding(crate::specs::Kinds::stop_of), using(std::proofs::lemmas::Bool::Decides::nat_tests))]
+    pub fn new(n: u32, count: u32) -> Option<Stop>
         requires { count ≤ most_stops }
         ensures { result ≡ stop_of n count }
     {
         if n < count {
-            StopRead::Good(Stop(n as u16))
+            Some(Stop(n as u16))
         } else {
-            StopRead::Bad
+            None
         }
     }
 }
@@ -79,12 +72,6 @@ impl Stop {
 
 #[derive(Clone, Copy)]
 pub struct Minute(pub u16);
-
-#[derive(Clone, Copy)]
-pub enum MinuteRead {
-    Good(Minute),
-    Bad,
-}
 
 impl Minute {
     pub const LAST: u16 = 2879;
@@ -105,13 +92,14 @@ impl Minute {
         Minute::UNREACHED
     }
 
-    pub fn new(n: u32) -> MinuteRead
+    #[tactic(auto, unfolding(crate::specs::Kinds::minute_of), using(std::proofs::lemmas::Bool::Decides::nat_tests))]
+    pub fn new(n: u32) -> Option<Minute>
         ensures { result ≡ minute_of n }
     {
         if n <= (Minute::LAST as u32) {
-            MinuteRead::Good(Minute(n as u16))
+            Some(Minute(n as u16))
         } else {
-            MinuteRead::Bad
+            None
         }
     }
 }
@@ -120,12 +108,6 @@ impl Minute {
 
 #[derive(Clone, Copy)]
 pub struct Trip(pub u16);
-
-#[derive(Clone, Copy)]
-pub enum TripRead {
-    Good(Trip),
-    Bad,
-}
 
 impl Trip {
     pub const MOST: u32 = 65535;
@@ -137,17 +119,14 @@ impl Trip {
         Trip::MOST
     }
 
-    pub fn new(n: u32) -> TripRead
+    #[tactic(auto, unfolding(crate::specs::Kinds::trip_of), using(std::proofs::lemmas::Bool::Decides::nat_tests))]
+    pub fn new(n: u32) -> Option<Trip>
         ensures { result ≡ trip_of n }
     {
-        if n == 0 {
-            return TripRead::Bad;
+        if n == 0 || Trip::MOST < n {
+            return None;
         }
-        if n <= Trip::MOST {
-            TripRead::Good(Trip(n as u16))
-        } else {
-            TripRead::Bad
-        }
+        Some(Trip(n as u16))
     }
 }
 
@@ -160,13 +139,6 @@ pub struct Run {
     pub dep: u16,
     pub arr: u16,
     pub trip: u16,
-}
-
-// A run, or the number of the refusal: 5, 6 or 7, in this order.
-#[derive(Clone, Copy)]
-pub enum RunRead {
-    Good(Run),
-    Bad(u32),
 }
 
 impl Run {
@@ -197,39 +169,29 @@ impl Run {
         Run::ROOM
     }
 
+    #[tactic(auto, unfolding(crate::specs::Kinds::is_run_count), using(std::proofs::lemmas::Bool::Decides::nat_tests))]
     pub fn is_count(n: u32) -> bool
         ensures { result ≡ is_run_count n }
     {
         (n as usize) <= Run::MOST
     }
 
-    // The run of these five numbers, among `stops` stops. Values are judged as they are.
-    pub fn new(stops: u32, from: u32, to: u32, dep: u32, arr: u32, trip: u32) -> RunRead
+    // The run of these five numbers, among `stops` stops; or why there is none: 5, 6 or 7, in this order. Values are judged as they are.
+    #[tactic(auto, unfolding(crate::specs::Kinds::run_of), using(std::proofs::lemmas::Bool::Decides::nat_tests))]
+    pub fn new(stops: u32, from: u32, to: u32, dep: u32, arr: u32, trip: u32) -> Result<Run, Reason>
         requires { stops ≤ most_stops }
         ensures { result ≡ run_of stops from to dep arr trip }
     {
-        if stops <= from {
-            return RunRead::Bad(Refusal::STOP_UNKNOWN);
-        }
-        if stops <= to {
-            return RunRead::Bad(Refusal::STOP_UNKNOWN);
+        if stops <= from || stops <= to {
+            return Err(Reason::StopUnknown);
         }
         if from == to {
-            return RunRead::Bad(Refusal::OWN_STOP);
+            return Err(Reason::OwnStop);
         }
-        if arr <= dep {
-            return RunRead::Bad(Refusal::OUT_OF_RANGE);
+        if arr <= dep || (Minute::LAST as u32) < arr || trip == 0 || Trip::MOST < trip {
+            return Err(Reason::OutOfRange);
         }
-        if (Minute::LAST as u32) < arr {
-            return RunRead::Bad(Refusal::OUT_OF_RANGE);
-        }
-        if trip == 0 {
-            return RunRead::Bad(Refusal::OUT_OF_RANGE);
-        }
-        if Trip::MOST < trip {
-            return RunRead::Bad(Refusal::OUT_OF_RANGE);
-        }
-        RunRead::Good(Run {
+        Ok(Run {
             from: from as u16,
             to: to as u16,
             dep: dep as u16,
@@ -247,12 +209,6 @@ pub struct Label {
     pub dep: u16,
     pub arr: u16,
     pub pivot: u16,
-}
-
-#[derive(Clone, Copy)]
-pub enum LabelRead {
-    Good(Label),
-    Bad,
 }
 
 impl Label {
@@ -275,36 +231,17 @@ impl Label {
     }
 
     // A label of `owner`, among `stops` stops, if it is good by itself.
-    pub fn new(stops: u16, owner: u16, hub: u16, dep: u16, arr: u16, pivot: u16) -> LabelRead
+    #[tactic(auto, unfolding(crate::specs::Kinds::label_of), using(std::proofs::lemmas::Bool::Decides::nat_tests))]
+    pub fn new(stops: u16, owner: u16, hub: u16, dep: u16, arr: u16, pivot: u16) -> Option<Label>
         ensures { result ≡ label_of stops owner hub dep arr pivot }
     {
-        if owner <= hub {
-            return LabelRead::Bad;
+        if owner <= hub || arr <= dep || Minute::LAST < arr {
+            return None;
         }
-        if arr <= dep {
-            return LabelRead::Bad;
+        if pivot != Label::NO_PIVOT && (pivot <= hub || stops <= pivot || pivot == owner) {
+            return None;
         }
-        if Minute::LAST < arr {
-            return LabelRead::Bad;
-        }
-        if pivot == Label::NO_PIVOT {
-            return LabelRead::Good(Label {
-                hub,
-                dep,
-                arr,
-                pivot,
-            });
-        }
-        if pivot <= hub {
-            return LabelRead::Bad;
-        }
-        if stops <= pivot {
-            return LabelRead::Bad;
-        }
-        if pivot == owner {
-            return LabelRead::Bad;
-        }
-        LabelRead::Good(Label {
+        Some(Label {
             hub,
             dep,
             arr,
@@ -335,22 +272,18 @@ impl Code {
         Code::MOST
     }
 
+    #[tactic(auto, unfolding(crate::specs::Kinds::is_code_byte), using(std::proofs::lemmas::Bool::Decides::nat_tests))]
     pub fn is_byte(b: u8) -> bool
         ensures { result ≡ is_code_byte b }
     {
-        if b < Code::LEAST_BYTE {
-            return false;
-        }
-        b <= Code::MOST_BYTE
+        Code::LEAST_BYTE <= b && b <= Code::MOST_BYTE
     }
 
+    #[tactic(auto, unfolding(crate::specs::Kinds::is_code_length), using(std::proofs::lemmas::Bool::Decides::nat_tests))]
     pub fn is_length(n: usize) -> bool
         ensures { result ≡ is_code_length n }
     {
-        if n == 0 {
-            return false;
-        }
-        n <= Code::MOST
+        n != 0 && n <= Code::MOST
     }
 }
 
@@ -381,96 +314,96 @@ impl Text {
 
 // ---- Refusals. A refusal carries number and place only; the stop is the second place of refusal 20, else 0.
 
-#[derive(Clone, Copy)]
+// Why something is refused, by the list of document 01, "Numbers given back". specs/Refusals.antt has each with its meaning.
+#[derive(Clone, Copy, Debug, PartialEq, Eq)]
+pub enum Reason {
+    FirstLine = 1,
+    LineShape = 2,
+    CodeBad = 3,
+    CodeRepeated = 4,
+    StopUnknown = 5,
+    OwnStop = 6,
+    OutOfRange = 7,
+    OverLimit = 8,
+    NoTables = 9,
+    TablesLength = 10,
+    LabelBad = 11,
+    StopHigh = 12,
+    SameStop = 13,
+    MinuteHigh = 14,
+    MinutesCrossed = 15,
+    NoJourney = 16,
+    RoomShort = 17,
+    RidesMissing = 18,
+    Unsupported = 19,
+    Gap = 20,
+    StopsDiffer = 21,
+    LabelsOver = 22,
+}
+
+impl Reason {
+    // The number that is given back for it.
+    pub fn number(self) -> u32
+        ensures { result ≡ number_of self }
+    {
+        self as u32
+    }
+}
+
+#[derive(Clone, Copy, Debug, PartialEq, Eq)]
 pub struct Refusal {
-    pub number: u32,
+    pub reason: Reason,
     pub place: u32,
     pub stop: u32,
 }
 
-// The list of document 01, "Numbers given back". specs/Refusals.antt has each with its meaning.
 impl Refusal {
-    pub const FIRST_LINE: u32 = 1;
-
-    pub const LINE_SHAPE: u32 = 2;
-
-    pub const CODE_BAD: u32 = 3;
-
-    pub const CODE_REPEATED: u32 = 4;
-
-    pub const STOP_UNKNOWN: u32 = 5;
-
-    pub const OWN_STOP: u32 = 6;
-
-    pub const OUT_OF_RANGE: u32 = 7;
-
-    pub const OVER_LIMIT: u32 = 8;
-
-    pub const NO_TABLES: u32 = 9;
-
-    pub const TABLES_LENGTH: u32 = 10;
-
-    pub const LABEL_BAD: u32 = 11;
-
-    pub const STOP_HIGH: u32 = 12;
-
-    pub const SAME_STOP: u32 = 13;
-
-    pub const MINUTE_HIGH: u32 = 14;
-
-    pub const MINUTES_CROSSED: u32 = 15;
-
-    pub const NO_JOURNEY: u32 = 16;
-
-    pub const ROOM_SHORT: u32 = 17;
-
-    pub const RIDES_MISSING: u32 = 18;
-
-    pub const UNSUPPORTED: u32 = 19;
-
-    pub const GAP: u32 = 20;
-
-    pub const STOPS_DIFFER: u32 = 21;
-
-    pub const LABELS_OVER: u32 = 22;
-
-    // All of them in order; the definitions have the same names for the same numbers.
+    // All numbers in order.
     pub fn numbers() -> [u32; 22]
         ensures { result ≡ all_numbers }
     {
         [
-            Refusal::FIRST_LINE,
-            Refusal::LINE_SHAPE,
-            Refusal::CODE_BAD,
-            Refusal::CODE_REPEATED,
-            Refusal::STOP_UNKNOWN,
-            Refusal::OWN_STOP,
-            Refusal::OUT_OF_RANGE,
-            Refusal::OVER_LIMIT,
-            Refusal::NO_TABLES,
-            Refusal::TABLES_LENGTH,
-            Refusal::LABEL_BAD,
-            Refusal::STOP_HIGH,
-            Refusal::SAME_STOP,
-            Refusal::MINUTE_HIGH,
-            Refusal::MINUTES_CROSSED,
-            Refusal::NO_JOURNEY,
-            Refusal::ROOM_SHORT,
-            Refusal::RIDES_MISSING,
-            Refusal::UNSUPPORTED,
-            Refusal::GAP,
-            Refusal::STOPS_DIFFER,
-            Refusal::LABELS_OVER,
+            Reason::FirstLine as u32,
+            Reason::LineShape as u32,
+            Reason::CodeBad as u32,
+            Reason::CodeRepeated as u32,
+            Reason::StopUnknown as u32,
+            Reason::OwnStop as u32,
+            Reason::OutOfRange as u32,
+            Reason::OverLimit as u32,
+            Reason::NoTables as u32,
+            Reason::TablesLength as u32,
+            Reason::LabelBad as u32,
+            Reason::StopHigh as u32,
+            Reason::SameStop as u32,
+            Reason::MinuteHigh as u32,
+            Reason::MinutesCrossed as u32,
+            Reason::NoJourney as u32,
+            Reason::RoomShort as u32,
+            Reason::RidesMissing as u32,
+            Reason::Unsupported as u32,
+            Reason::Gap as u32,
+            Reason::StopsDiffer as u32,
+            Reason::LabelsOver as u32,
         ]
     }
 
-    pub fn new(number: u32, place: u32) -> Refusal
-        ensures { result ≡ refusal number place }
+    pub fn new(reason: Reason, place: u32) -> Refusal
+        ensures { result ≡ refusal reason place }
     {
         Refusal {
-            number,
+            reason,
             place,
             stop: 0,
         }
+    }
+}
+
+// Where a call names no place, the place is 0.
+impl From<Reason> for Refusal {
+    ghost from_gives = { λ reason r. r ≡ refusal reason 0 };
+
+    fn from(reason: Reason) -> Refusal {
+        Refusal::new(reason, 0)
     }
 }

@@ -2,9 +2,8 @@
 
 // What kiosk engineering calls. Every name begins with kiosk_; all numbers are u32; `answer` is [0, ..] on success and
 // [number, place, stop, 0] on a refusal. The crate `kiosk_c` exports these functions under their names.
-ghost use Rattle.std.specs.Prelude.{◌≡◌, length};
+ghost use Rattle.std.specs.Prelude.{◌≡◌, ℕ, List, Result, length};
 ghost use Rattle.tables.specs.File.{tables_of};
-ghost use Rattle.asks.specs.declared.Answer.{Answer};
 ghost use Rattle.asks.specs.declared.Wanted.TheVariants as wanted;
 ghost use Rattle.asks.specs.Asks.{asked, Answers};
 ghost use Rattle.reader.specs.Text.{read_text, answer_of, runs_of, codes_of};
@@ -12,38 +11,78 @@ ghost use Rattle.loops.specs.Zero.{zeros};
 ghost use Rattle.timetable.specs.Numbers.{given_of};
 ghost use Rattle.timetable.specs.Slots.{service_of};
 ghost use Rattle.both.specs.Both.{work_room};
-ghost use Rattle.verdict.specs.declared.Verdict.{Verdict};
 ghost use Rattle.verdict.specs.Verdict.{Checked};
-ghost use Rattle.rides.specs.declared.RidesAnswer.{RidesAnswer};
 ghost use Rattle.rides.specs.Lists.{rides_asked, Lists};
-ghost use Rattle.kiosk.specs.Four.{four_ask, four_read, four_check, four_rides, four_build};
-ghost use Rattle.builder.specs.declared.BuildAnswer.{BuildAnswer};
+ghost use Rattle.kiosk.specs.Four.{four, told_ask, told_read, told_check, told_rides, told_build, four_ask, four_read, four_check, four_rides, four_build};
 ghost use Rattle.builder.specs.Build.{build_room, BuildOf};
+ghost use Rattle.builder.specs.declared.Built.{Built};
+ghost use Rattle.kinds.specs.declared.Refusal.{Refusal};
+ghost use Rattle.asks.specs.declared.Journey.{Journey};
+ghost use Rattle.rides.specs.declared.Listed.{Listed};
 
-use asks::Answer;
-use builder::{BuildAnswer, Work};
-use reader::ReadAnswer;
-use rides::RidesAnswer;
+use asks::Journey;
+use builder::{Built, Work};
+use kinds::Refusal;
+use reader::Counts;
+use rides::Listed;
 use timetable::Given;
-use verdict::Verdict;
 
-#[tactic(auto, unfolding(crate::specs::Four::four_read))]
-fn four_read(a: ReadAnswer) -> [u32; 4]
-    ensures { result ≡ four_read a }
-{
-    match a {
-        ReadAnswer::Read(c) => [0, c.stops, c.runs, 0],
-        ReadAnswer::No(r) => [r.number, r.place, r.stop, 0],
+// What a success tells in the four numbers.
+trait Told {
+    ghost told: { Self → List ℕ };
+
+    fn told(self) -> [u32; 4]
+        ensures { result ≡ told self };
+}
+
+impl Told for Counts {
+    ghost told = { told_read };
+
+    fn told(self) -> [u32; 4] {
+        [0, self.stops, self.runs, 0]
     }
 }
 
-#[tactic(auto, unfolding(crate::specs::Four::four_ask))]
-fn four_ask(a: Answer) -> [u32; 4]
-    ensures { result ≡ four_ask a }
+impl Told for Journey {
+    ghost told = { told_ask };
+
+    fn told(self) -> [u32; 4] {
+        [0, self.dep as u32, self.arr as u32, 0]
+    }
+}
+
+// Accepted tables: there is no more to tell.
+impl Told for () {
+    ghost told = { told_check };
+
+    fn told(self) -> [u32; 4] {
+        [0, 0, 0, 0]
+    }
+}
+
+impl Told for Listed {
+    ghost told = { told_rides };
+
+    fn told(self) -> [u32; 4] {
+        [0, self.dep as u32, self.arr as u32, self.rides]
+    }
+}
+
+impl Told for Built {
+    ghost told = { told_build };
+
+    fn told(self) -> [u32; 4] {
+        [0, self.length, self.labels, 0]
+    }
+}
+
+// The four numbers of an answer.
+fn four<T: Told>(answer: Result<T, Refusal>) -> [u32; 4]
+    ensures { result ≡ four T.told answer }
 {
-    match a {
-        Answer::At(j) => [0, j.dep as u32, j.arr as u32, 0],
-        Answer::No(r) => [r.number, r.place, r.stop, 0],
+    match answer {
+        Ok(success) => success.told(),
+        Err(r) => [r.reason.number(), r.place, r.stop, 0],
     }
 }
 
@@ -55,55 +94,31 @@ pub fn kiosk_read(text: &[u8], runs: &mut [u32], codes: &mut [u32], answer: &mut
     ensures codes_after { codes.new ≡ codes_of (read_text text.now (length runs.old) (length codes.old))
         (length codes.old) }
 {
-    let a = reader::read(text, runs, codes);
-    *answer = four_read(a);
+    *answer = four(reader::read(text, runs, codes));
 }
 
 // early(from, to, t) over the tables: [0, departure, arrival, 0].
 pub fn kiosk_early(tables: &[u8], from: u32, to: u32, t: u32, answer: &mut [u32; 4])
-    ensures { (x : Answer) × Answers (tables_of tables.now) (asked tables.now from to (wanted.Early t)) x ×
+    ensures { (x : Result Journey Refusal) × Answers (tables_of tables.now) (asked tables.now from to (wanted.Early t)) x ×
         (answer.new ≡ four_ask x) }
 {
-    let a = asks::early(tables, from, to, t);
-    *answer = four_ask(a);
+    *answer = four(asks::early(tables, from, to, t));
 }
 
 // late(from, to, t) over the tables: [0, departure, arrival, 0].
 pub fn kiosk_late(tables: &[u8], from: u32, to: u32, t: u32, answer: &mut [u32; 4])
-    ensures { (x : Answer) × Answers (tables_of tables.now) (asked tables.now from to (wanted.Late t)) x ×
+    ensures { (x : Result Journey Refusal) × Answers (tables_of tables.now) (asked tables.now from to (wanted.Late t)) x ×
         (answer.new ≡ four_ask x) }
 {
-    let a = asks::late(tables, from, to, t);
-    *answer = four_ask(a);
+    *answer = four(asks::late(tables, from, to, t));
 }
 
 // short(from, to, t, t2) over the tables: [0, departure, arrival, 0].
 pub fn kiosk_short(tables: &[u8], from: u32, to: u32, t: u32, t2: u32, answer: &mut [u32; 4])
-    ensures { (x : Answer) × Answers (tables_of tables.now) (asked tables.now from to (wanted.Short t t2)) x ×
+    ensures { (x : Result Journey Refusal) × Answers (tables_of tables.now) (asked tables.now from to (wanted.Short t t2)) x ×
         (answer.new ≡ four_ask x) }
 {
-    let a = asks::short(tables, from, to, t, t2);
-    *answer = four_ask(a);
-}
-
-#[tactic(auto, unfolding(crate::specs::Four::four_check))]
-fn four_check(a: Verdict) -> [u32; 4]
-    ensures { result ≡ four_check a }
-{
-    match a {
-        Verdict::Accepted => [0, 0, 0, 0],
-        Verdict::No(r) => [r.number, r.place, r.stop, 0],
-    }
-}
-
-#[tactic(auto, unfolding(crate::specs::Four::four_rides))]
-fn four_rides(a: RidesAnswer) -> [u32; 4]
-    ensures { result ≡ four_rides a }
-{
-    match a {
-        RidesAnswer::At(j) => [0, j.dep as u32, j.arr as u32, j.rides],
-        RidesAnswer::No(r) => [r.number, r.place, r.stop, 0],
-    }
+    *answer = four(asks::short(tables, from, to, t, t2));
 }
 
 // How many numbers of two bytes the check needs as working room.
@@ -122,7 +137,7 @@ pub fn kiosk_check(
     work: &mut [u16],
     answer: &mut [u32; 4],
 )
-    ensures checked { (x : Verdict) × Checked tables.now (given_of stops run_count) runs.now (length work.old) x ×
+    ensures checked { (x : Result Unit Refusal) × Checked tables.now (given_of stops run_count) runs.now (length work.old) x ×
         (answer.new ≡ four_check x) }
     ensures work_after { work.new ≡ zeros work.old }
 {
@@ -130,8 +145,7 @@ pub fn kiosk_check(
         stops,
         runs: run_count,
     };
-    let a = verdict::check(tables, given, runs, work);
-    *answer = four_check(a);
+    *answer = four(verdict::check(tables, given, runs, work));
 }
 
 // How many numbers of two bytes an ask with rides needs as working room.
@@ -154,7 +168,7 @@ pub fn kiosk_early_rides(
     work: &mut [u16],
     answer: &mut [u32; 4],
 )
-    ensures lists { (x : RidesAnswer) × Lists (service_of (given_of stops run_count) runs.now) (tables_of tables.now)
+    ensures lists { (x : Result Listed Refusal) × Lists (service_of (given_of stops run_count) runs.now) (tables_of tables.now)
         (rides_asked tables.now (given_of stops run_count) runs.now (length work.old) from to (wanted.Early t))
         list.old list.new x × (answer.new ≡ four_rides x) }
     ensures work_after { work.new ≡ zeros work.old }
@@ -163,8 +177,7 @@ pub fn kiosk_early_rides(
         stops,
         runs: run_count,
     };
-    let a = rides::early(tables, given, runs, from, to, t, list, work);
-    *answer = four_rides(a);
+    *answer = four(rides::early(tables, given, runs, from, to, t, list, work));
 }
 
 // late with its rides: [0, departure, arrival, rides], and the run numbers in the list.
@@ -180,7 +193,7 @@ pub fn kiosk_late_rides(
     work: &mut [u16],
     answer: &mut [u32; 4],
 )
-    ensures lists { (x : RidesAnswer) × Lists (service_of (given_of stops run_count) runs.now) (tables_of tables.now)
+    ensures lists { (x : Result Listed Refusal) × Lists (service_of (given_of stops run_count) runs.now) (tables_of tables.now)
         (rides_asked tables.now (given_of stops run_count) runs.now (length work.old) from to (wanted.Late t))
         list.old list.new x × (answer.new ≡ four_rides x) }
     ensures work_after { work.new ≡ zeros work.old }
@@ -189,8 +202,7 @@ pub fn kiosk_late_rides(
         stops,
         runs: run_count,
     };
-    let a = rides::late(tables, given, runs, from, to, t, list, work);
-    *answer = four_rides(a);
+    *answer = four(rides::late(tables, given, runs, from, to, t, list, work));
 }
 
 // short with its rides: [0, departure, arrival, rides], and the run numbers in the list.
@@ -207,7 +219,7 @@ pub fn kiosk_short_rides(
     work: &mut [u16],
     answer: &mut [u32; 4],
 )
-    ensures lists { (x : RidesAnswer) × Lists (service_of (given_of stops run_count) runs.now) (tables_of tables.now)
+    ensures lists { (x : Result Listed Refusal) × Lists (service_of (given_of stops run_count) runs.now) (tables_of tables.now)
         (rides_asked tables.now (given_of stops run_count) runs.now (length work.old) from to (wanted.Short t t2))
         list.old list.new x × (answer.new ≡ four_rides x) }
     ensures work_after { work.new ≡ zeros work.old }
@@ -216,18 +228,7 @@ pub fn kiosk_short_rides(
         stops,
         runs: run_count,
     };
-    let a = rides::short(tables, given, runs, from, to, t, t2, list, work);
-    *answer = four_rides(a);
-}
-
-#[tactic(auto, unfolding(crate::specs::Four::four_build))]
-fn four_build(a: BuildAnswer) -> [u32; 4]
-    ensures { result ≡ four_build a }
-{
-    match a {
-        BuildAnswer::Built(length, labels) => [0, length, labels, 0],
-        BuildAnswer::No(r) => [r.number, r.place, r.stop, 0],
-    }
+    *answer = four(rides::short(tables, given, runs, from, to, t, t2, list, work));
 }
 
 // How many numbers of two bytes the build needs as working room.
@@ -246,7 +247,7 @@ pub fn kiosk_build(
     work: &mut [u16],
     answer: &mut [u32; 4],
 )
-    ensures build_of { (x : BuildAnswer) × BuildOf (given_of stops run_count) runs.now (length work.old)
+    ensures build_of { (x : Result Built Refusal) × BuildOf (given_of stops run_count) runs.now (length work.old)
         (length tables.old) x tables.new × (answer.new ≡ four_build x) }
     ensures work_after { work.new ≡ zeros work.old }
 {
@@ -254,6 +255,5 @@ pub fn kiosk_build(
         stops,
         runs: run_count,
     };
-    let a = builder::build(given, runs, tables, work);
-    *answer = four_build(a);
+    *answer = four(builder::build(given, runs, tables, work));
 }

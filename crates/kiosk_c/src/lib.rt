@@ -2,9 +2,8 @@
 
 // What kiosk engineering links: the functions of the crate `kiosk`, under their names. Every name begins with kiosk_; all numbers are u32; `answer` is
 // [0, ..] on success and [number, place, stop, 0] on a refusal. include/kiosk.h says the same for C.
-ghost use Rattle.std.specs.Prelude.{◌≡◌, length};
+ghost use Rattle.std.specs.Prelude.{◌≡◌, Result, length};
 ghost use Rattle.tables.specs.File.{tables_of};
-ghost use Rattle.asks.specs.declared.Answer.{Answer};
 ghost use Rattle.asks.specs.declared.Wanted.TheVariants as wanted;
 ghost use Rattle.asks.specs.Asks.{asked, Answers};
 ghost use Rattle.reader.specs.Text.{read_text, answer_of, runs_of, codes_of};
@@ -12,13 +11,14 @@ ghost use Rattle.loops.specs.Zero.{zeros};
 ghost use Rattle.timetable.specs.Numbers.{given_of};
 ghost use Rattle.timetable.specs.Slots.{service_of};
 ghost use Rattle.both.specs.Both.{work_room};
-ghost use Rattle.verdict.specs.declared.Verdict.{Verdict};
 ghost use Rattle.verdict.specs.Verdict.{Checked};
-ghost use Rattle.rides.specs.declared.RidesAnswer.{RidesAnswer};
 ghost use Rattle.rides.specs.Lists.{rides_asked, Lists};
 ghost use Rattle.kiosk.specs.Four.{four_ask, four_read, four_check, four_rides, four_build};
-ghost use Rattle.builder.specs.declared.BuildAnswer.{BuildAnswer};
 ghost use Rattle.builder.specs.Build.{build_room, BuildOf};
+ghost use Rattle.builder.specs.declared.Built.{Built};
+ghost use Rattle.kinds.specs.declared.Refusal.{Refusal};
+ghost use Rattle.asks.specs.declared.Journey.{Journey};
+ghost use Rattle.rides.specs.declared.Listed.{Listed};
 
 // Reads timetable text into run numbers and the codes' places: [0, stops, runs, 0].
 #[unsafe(no_mangle)]
@@ -40,7 +40,7 @@ pub extern "C" fn kiosk_read(
 // early(from, to, t) over the tables: [0, departure, arrival, 0].
 #[unsafe(no_mangle)]
 pub extern "C" fn kiosk_early(tables: &[u8], from: u32, to: u32, t: u32, answer: &mut [u32; 4])
-    ensures { (x : Answer) × Answers (tables_of tables.now) (asked tables.now from to (wanted.Early t)) x ×
+    ensures { (x : Result Journey Refusal) × Answers (tables_of tables.now) (asked tables.now from to (wanted.Early t)) x ×
         (answer.new ≡ four_ask x) }
 {
     kiosk::kiosk_early(tables, from, to, t, answer);
@@ -49,7 +49,7 @@ pub extern "C" fn kiosk_early(tables: &[u8], from: u32, to: u32, t: u32, answer:
 // late(from, to, t) over the tables: [0, departure, arrival, 0].
 #[unsafe(no_mangle)]
 pub extern "C" fn kiosk_late(tables: &[u8], from: u32, to: u32, t: u32, answer: &mut [u32; 4])
-    ensures { (x : Answer) × Answers (tables_of tables.now) (asked tables.now from to (wanted.Late t)) x ×
+    ensures { (x : Result Journey Refusal) × Answers (tables_of tables.now) (asked tables.now from to (wanted.Late t)) x ×
         (answer.new ≡ four_ask x) }
 {
     kiosk::kiosk_late(tables, from, to, t, answer);
@@ -65,7 +65,7 @@ pub extern "C" fn kiosk_short(
     t2: u32,
     answer: &mut [u32; 4],
 )
-    ensures { (x : Answer) × Answers (tables_of tables.now) (asked tables.now from to (wanted.Short t t2)) x ×
+    ensures { (x : Result Journey Refusal) × Answers (tables_of tables.now) (asked tables.now from to (wanted.Short t t2)) x ×
         (answer.new ≡ four_ask x) }
 {
     kiosk::kiosk_short(tables, from, to, t, t2, answer);
@@ -89,7 +89,7 @@ pub extern "C" fn kiosk_check(
     work: &mut [u16],
     answer: &mut [u32; 4],
 )
-    ensures checked { (x : Verdict) × Checked tables.now (given_of stops run_count) runs.now (length work.old) x ×
+    ensures checked { (x : Result Unit Refusal) × Checked tables.now (given_of stops run_count) runs.now (length work.old) x ×
         (answer.new ≡ four_check x) }
     ensures work_after { work.new ≡ zeros work.old }
 {
@@ -118,7 +118,7 @@ pub extern "C" fn kiosk_early_rides(
     work: &mut [u16],
     answer: &mut [u32; 4],
 )
-    ensures lists { (x : RidesAnswer) × Lists (service_of (given_of stops run_count) runs.now) (tables_of tables.now)
+    ensures lists { (x : Result Listed Refusal) × Lists (service_of (given_of stops run_count) runs.now) (tables_of tables.now)
         (rides_asked tables.now (given_of stops run_count) runs.now (length work.old) from to (wanted.Early t))
         list.old list.new x × (answer.new ≡ four_rides x) }
     ensures work_after { work.new ≡ zeros work.old }
@@ -142,7 +142,7 @@ pub extern "C" fn kiosk_late_rides(
     work: &mut [u16],
     answer: &mut [u32; 4],
 )
-    ensures lists { (x : RidesAnswer) × Lists (service_of (given_of stops run_count) runs.now) (tables_of tables.now)
+    ensures lists { (x : Result Listed Refusal) × Lists (service_of (given_of stops run_count) runs.now) (tables_of tables.now)
         (rides_asked tables.now (given_of stops run_count) runs.now (length work.old) from to (wanted.Late t))
         list.old list.new x × (answer.new ≡ four_rides x) }
     ensures work_after { work.new ≡ zeros work.old }
@@ -167,7 +167,7 @@ pub extern "C" fn kiosk_short_rides(
     work: &mut [u16],
     answer: &mut [u32; 4],
 )
-    ensures lists { (x : RidesAnswer) × Lists (service_of (given_of stops run_count) runs.now) (tables_of tables.now)
+    ensures lists { (x : Result Listed Refusal) × Lists (service_of (given_of stops run_count) runs.now) (tables_of tables.now)
         (rides_asked tables.now (given_of stops run_count) runs.now (length work.old) from to (wanted.Short t t2))
         list.old list.new x × (answer.new ≡ four_rides x) }
     ensures work_after { work.new ≡ zeros work.old }
@@ -195,7 +195,7 @@ pub extern "C" fn kiosk_build(
     work: &mut [u16],
     answer: &mut [u32; 4],
 )
-    ensures build_of { (x : BuildAnswer) × BuildOf (given_of stops run_count) runs.now (length work.old)
+    ensures build_of { (x : Result Built Refusal) × BuildOf (given_of stops run_count) runs.now (length work.old)
         (length tables.old) x tables.new × (answer.new ≡ four_build x) }
     ensures work_after { work.new ≡ zeros work.old }
 {

@@ -2,6 +2,8 @@
 use Rattle.std.specs.Prelude.{ℕ, ◌≤◌, ◌<◌, ◌≡◌, Bool, true, false, leb, eqb, List}
 use Rattle.std.proofs.Common.{sym, subst, inl, inr, arith}
 use Rattle.std.proofs.Math.Decide.{dec_le, dec_lt, ℕ_discrete}
+use Rattle.loops.specs.FirstLaws.{passed_none, passed_more, first_here, first_end}
+use Rattle.loops.specs.HalvedLaws.{halved_begin, halved_low, halved_high}
 use Rattle.loops.specs.Decide.{dec_or, dec_then}
 use Rattle.loops.specs.Tells.{Tells}
 use Rattle.loops.specs.TellsLaws.{tells_as, told_true, told_false}
@@ -51,6 +53,11 @@ module _ (b : List ℕ) (hub : ℕ) (m : Moment) (k : ℕ) (l : Label) {r : Bool
 
   pub past_false : Tells (PastLabel l hub m) r → r ≡ false → ¬ (Past (tables_of b) hub m k)
   past_false t f p = let R = read_as b k e in told_false t f (rw (R.hub, R.dep, R.arr) at p)
+
+-- what the loops that look for a label's place go by
+pub ruleset seek_turns = (passed_none, passed_more, first_here, first_end, past_true, past_false)
+
+pub ruleset place_turns = (halved_begin, halved_low, halved_high, past_true, past_false)
 
 -- ---- the place of a label
 

@@ -1,5 +1,6 @@
 -- What is looked up in the sets: a label by its ends and one of its minutes; the two labels that meet at a pivot.
-use Rattle.std.specs.Prelude.{ℕ, min, ◌≤◌, ◌<◌, ◌≡◌, List}
+use Rattle.std.specs.Prelude as std
+use Rattle.std.specs.Prelude.{ℕ, min, ◌≤◌, ◌<◌, ◌≡◌, List, None, Some}
 use Rattle.std.proofs.Math.Option.{Option}
 use Rattle.kinds.specs.Limits.{no_pivot}
 use Rattle.kinds.specs.declared.Label as kinds
@@ -10,11 +11,7 @@ use Rattle.tables.specs.File.{pivot_of, tables_of}
 use Rattle.tables.specs.Good.{GoodFile}
 use Rattle.label_sets.specs.declared.Moment.{Moment}
 use Rattle.label_sets.specs.declared.Span.{Span}
-use Rattle.label_sets.specs.declared.Sought.{Sought}
-use Rattle.label_sets.specs.declared.Sought.TheVariants.{Found, Missing}
 use Rattle.label_sets.specs.declared.Meeting.{Meeting}
-use Rattle.label_sets.specs.declared.Parted.{Parted}
-use Rattle.label_sets.specs.declared.Parted.TheVariants as parted
 use Rattle.label_sets.specs.Seek.{Exactly}
 
 -- the set of the owner s on this side lies between these bounds
@@ -30,9 +27,9 @@ pub record FoundInSet (T : Tables) (side : Side) (s h : ℕ) (m : Moment) (k : �
   pub hub : l.hub ≡ h
   pub says : Exactly m l.dep l.arr
 
-abbrev pub SoughtIn : Tables → Side → ℕ → ℕ → Moment → Sought → Type 0
-SoughtIn T side s hub m (Found k l) = FoundInSet T side s hub m k l
-SoughtIn T side s hub m Missing = (k d a : ℕ) (p : Option ℕ) → Entry T side k s hub d a p → ¬ (Exactly m d a)
+abbrev pub SoughtIn : Tables → Side → ℕ → ℕ → Moment → std.Option (ℕ × kinds.Label) → Type 0
+SoughtIn T side s hub m (Some (k, l)) = FoundInSet T side s hub m k l
+SoughtIn T side s hub m None = (k d a : ℕ) (p : Option ℕ) → Entry T side k s hub d a p → ¬ (Exactly m d a)
 
 -- "the label u to p that leaves at the same minute", "the label p to v that arrives at the same minute", or that there is none.
 -- (Its hub is the end with the lower number.)
@@ -41,9 +38,9 @@ pub record FoundLabel (T : Tables) (u v : ℕ) (m : Moment) (k : ℕ) (l : kinds
   pub hub : l.hub ≡ min u v
   pub says : Exactly m l.dep l.arr
 
-abbrev pub SoughtAs : Tables → ℕ → ℕ → Moment → Sought → Type 0
-SoughtAs T u v m (Found k l) = FoundLabel T u v m k l
-SoughtAs T u v m Missing = ¬ (LabelWith T u v (Exactly m))
+abbrev pub SoughtAs : Tables → ℕ → ℕ → Moment → std.Option (ℕ × kinds.Label) → Type 0
+SoughtAs T u v m (Some (k, l)) = FoundLabel T u v m k l
+SoughtAs T u v m None = ¬ (LabelWith T u v (Exactly m))
 
 -- the span's stops are stops, and so is its pivot if it has one
 pub record SpanIn (n : ℕ) (s : Span) : Type 0 where
@@ -58,9 +55,9 @@ pub record MeetAt (T : Tables) (s : Span) (h : Meeting) : Type 0 where
   pub second : Label T s.pivot s.to h.start s.arr (pivot_of h.second)
   pub meets : h.mid ≤ h.start
 
-abbrev pub PartedAs : Tables → Span → Parted → Type 0
-PartedAs T s (parted.Met h) = MeetAt T s h
-PartedAs T s parted.Missing = ¬ (Halves T s.from s.pivot s.to s.dep s.arr)
+abbrev pub PartedAs : Tables → Span → std.Option Meeting → Type 0
+PartedAs T s (Some h) = MeetAt T s h
+PartedAs T s None = ¬ (Halves T s.from s.pivot s.to s.dep s.arr)
 
 -- "with its ends and minutes": the ride at slot i is in force and has those of the span
 abbrev pub SpanRide : Service → Span → ℕ → Type 0

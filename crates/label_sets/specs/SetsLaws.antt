@@ -1,5 +1,6 @@
 -- Laws of what is looked up in the sets.
-use Rattle.std.specs.Prelude.{ℕ, ◌+◌, ◌*◌, ◌≤◌, ◌<◌, ◌≡◌, refl, List, Bool, true, false, get_or}
+use Rattle.std.specs.Prelude as std
+use Rattle.std.specs.Prelude.{ℕ, ◌+◌, ◌*◌, ◌≤◌, ◌<◌, ◌≡◌, refl, List, Bool, true, false, get_or, None, Some}
 use Rattle.std.proofs.Common.{sym, ap, subst, ◌∙◌, inl, inr, arith, le_of_lt}
 use Rattle.std.proofs.Math.Option.{Option}
 use Rattle.std.proofs.Math.Nat.{min-eq_left, min-eq_right}
@@ -11,19 +12,15 @@ use Rattle.kinds.specs.declared.Label as kinds
 use Rattle.journeys.specs.Tables.{Side, outs, ins, Tables, Entry, LabelAt, of_out, of_in, Label, GoodTables, LabelWith}
 use Rattle.journeys.specs.Check.{Halves}
 use Rattle.journeys.proofs.SketchLaws.{entry_at, number_by_dep, one_by_dep, one_by_arr}
-use Rattle.tables.specs.File.{labels_of, label_at, pivot_of, tables_of}
+use Rattle.tables.specs.File.{set_of, labels_of, label_at, pivot_of, tables_of}
 use Rattle.tables.specs.TablesLaws.{pivot_one, same_label, read_as, good_stops, tables_within, good_tables}
 use Rattle.label_sets.specs.Starts.{Started}
 use Rattle.label_sets.specs.StartsLaws.{set-start, set_end, set_rising}
 use Rattle.label_sets.specs.declared.Moment.{Moment}
 use Rattle.label_sets.specs.declared.Moment.TheVariants.{Leaving, Arriving}
-use Rattle.label_sets.specs.declared.Sought.{Sought}
-use Rattle.label_sets.specs.declared.Sought.TheVariants.{Found, Missing}
 use Rattle.label_sets.specs.Seek.{Exactly, NotBefore, Past, AtLabel}
 use Rattle.label_sets.specs.declared.Span.{Span}
 use Rattle.label_sets.specs.declared.Meeting.{Meeting}
-use Rattle.label_sets.specs.declared.Parted.{Parted}
-use Rattle.label_sets.specs.declared.Parted.TheVariants as parted
 use Rattle.label_sets.specs.Sets.{SetAt, FoundInSet, SoughtIn, FoundLabel, SoughtAs, MeetAt, PartedAs}
 
 -- ---- the place that was found, in one set of good tables
@@ -82,7 +79,7 @@ module _ {T : Tables} (G : GoodTables T) {side : Side} {s hub : ℕ} where
 
   -- so there is none where none stands at that place
   pub none_there : (m : Moment) {k : ℕ} → FirstAt (Past T hub m) (T.start side s) (T.end side s) k →
-      (k < T.end side s → T.hub k ≡ hub → ¬ (Exactly m (T.dep k) (T.arr k))) → SoughtIn T side s hub m Missing
+      (k < T.end side s → T.hub k ≡ hub → ¬ (Exactly m (T.dep k) (T.arr k))) → SoughtIn T side s hub m None
   none_there m {k} F off i d a p x f =
       let e = stands_there m F x f in
       off (omega (arith, x.high)) (rw (← e) x.hub) (rw (← e, x.dep, x.arr) f)
@@ -103,12 +100,12 @@ module _ {b : List ℕ} {n : ℕ} {side : Side} {s from to hub : ℕ} (m : Momen
   in_set : FirstAt (Past (tables_of b) hub m) ((tables_of b).start side s) ((tables_of b).end side s) k
   in_set = rw (A.start, A.end) F
 
-  pub past_end : to ≤ k → SoughtIn (tables_of b) side s hub m Missing
+  pub past_end : to ≤ k → SoughtIn (tables_of b) side s hub m None
   past_end h = none_there (good_tables A.file) m in_set (λ lt e. absurd (omega (arith, A.end)))
 
   -- label k was read as l, and the test of l answered r
   module _ (l : kinds.Label) {r : Bool} (e : l ≡ label_at b k) (t : Tells (AtLabel l hub m) r) where
-    pub not_there : r ≡ false → SoughtIn (tables_of b) side s hub m Missing
+    pub not_there : r ≡ false → SoughtIn (tables_of b) side s hub m None
     not_there f =
         let R = read_as b k e in
         none_there (good_tables A.file) m in_set (λ lt h q. told_false t f (sym R.hub ∙ h, rw (R.dep, R.arr) at q))
@@ -133,11 +130,20 @@ module _ {b : List ℕ} {n : ℕ} {side : Side} {s from to hub : ℕ} (m : Momen
 -- ---- the bounds that were written down, and the label by its ends
 
 module _ {b : List ℕ} {n : ℕ} {starts : List ℕ} (R : Started b n starts) where
+  pub set_at : (side : Side) (s set from to : ℕ) → s < n → set ≡ set_of side s → from ≡ get_or starts set 0 → to ≡ get_or starts (set + 1) 0 →
+      SetAt b n side s from to
+  set_at side s set from to lt e f t = record {
+    file = R.file;
+    owner = lt;
+    start = sym (f ∙ ap (λ k. get_or starts k 0) e ∙ set-start R side s lt);
+    end = sym (t ∙ ap (λ k. get_or starts (k + 1) 0) e ∙ set_end R side s lt);
+  }
+
   pub outs_at : (s from to : ℕ) → s < n → from ≡ get_or starts (2 * s) 0 → to ≡ get_or starts (2 * s + 1) 0 → SetAt b n outs s from to
-  outs_at s from to lt e f = record { file = R.file; owner = lt; start = sym (e ∙ set-start R outs s lt); end = sym (f ∙ set_end R outs s lt) }
+  outs_at s from to lt = set_at outs s (2 * s) from to lt refl
 
   pub ins_at : (s from to : ℕ) → s < n → from ≡ get_or starts (2 * s + 1) 0 → to ≡ get_or starts (2 * s + 1 + 1) 0 → SetAt b n ins s from to
-  ins_at s from to lt e f = record { file = R.file; owner = lt; start = sym (e ∙ set-start R ins s lt); end = sym (f ∙ set_end R ins s lt) }
+  ins_at s from to lt = set_at ins s (2 * s + 1) from to lt refl
 
 -- bounds of a set are in order, and within the labels
 pub set_bounds : {b : List ℕ} {n : ℕ} {side : Side} {s from to : ℕ} → SetAt b n side s from to → (from ≤ to) × (to ≤ labels_of b)
@@ -145,17 +151,17 @@ set_bounds {b} {side = side} {s} A = (omega (arith, A.start, A.end, set_rising b
 
 module _ {T : Tables} (G : GoodTables T) {u v : ℕ} (m : Moment) where
   -- a label u to v stands among the out-labels of u where v is the lower number, else among the in-labels of v
-  pub of_outs : (r : Sought) → v < u → SoughtIn T outs u v m r → SoughtAs T u v m r
-  of_outs (Found k l) lt x = record { label = of_out x.entry; hub = x.hub ∙ sym (min-eq_right (le_of_lt lt)); says = x.says }
-  of_outs Missing lt n = λ w. none w.label w.says
+  pub of_outs : (r : std.Option (ℕ × kinds.Label)) → v < u → SoughtIn T outs u v m r → SoughtAs T u v m r
+  of_outs (Some (k, l)) lt x = record { label = of_out x.entry; hub = x.hub ∙ sym (min-eq_right (le_of_lt lt)); says = x.says }
+  of_outs None lt n = λ w. none w.label w.says
     where
       none : {d a : ℕ} {p : Option ℕ} → Label T u v d a p → ¬ (Exactly m d a)
       none {d} {a} {p} (k, of_out e) = n k d a p e
       none (k, of_in e) = λ _. omega (arith, G.below e)
 
-  pub of_ins : (r : Sought) → u ≤ v → SoughtIn T ins v u m r → SoughtAs T u v m r
-  of_ins (Found k l) le x = record { label = of_in x.entry; hub = x.hub ∙ sym (min-eq_left le); says = x.says }
-  of_ins Missing le n = λ w. none w.label w.says
+  pub of_ins : (r : std.Option (ℕ × kinds.Label)) → u ≤ v → SoughtIn T ins v u m r → SoughtAs T u v m r
+  of_ins (Some (k, l)) le x = record { label = of_in x.entry; hub = x.hub ∙ sym (min-eq_left le); says = x.says }
+  of_ins None le n = λ w. none w.label w.says
     where
       none : {d a : ℕ} {p : Option ℕ} → Label T u v d a p → ¬ (Exactly m d a)
       none {d} {a} {p} (k, of_in e) = n k d a p e
@@ -234,13 +240,13 @@ module _ {T : Tables} (G : GoodTables T) where
         same_label x y (f.hub ∙ sym g.hub) s.0 (f.says ∙ sym g.says) (pivot_one x.pivot y.pivot s.1),
       )
 
-  pub sought_one : (u v : ℕ) (m : Moment) (r s : Sought) → SoughtAs T u v m r → SoughtAs T u v m s → r ≡ s
-  sought_one u v m (Found i x) (Found k y) f g = let e = same_found m f g in ap (λ j. Found j x) e.0 ∙ ap (Found k) e.1
-  sought_one u v m (Found i x) Missing f n =
+  pub sought_one : (u v : ℕ) (m : Moment) (r s : std.Option (ℕ × kinds.Label)) → SoughtAs T u v m r → SoughtAs T u v m s → r ≡ s
+  sought_one u v m (Some (i, x)) (Some (k, y)) f g = let e = same_found m f g in ap (λ j. Some (j, x)) e.0 ∙ ap (λ z. Some (k, z)) e.1
+  sought_one u v m (Some (i, x)) None f n =
       absurd (n (record { dep = x.dep; arr = x.arr; pivot = pivot_of x.pivot; label = (i, f.label); says = f.says }))
-  sought_one u v m Missing (Found k y) n g =
+  sought_one u v m None (Some (k, y)) n g =
       absurd (n (record { dep = y.dep; arr = y.arr; pivot = pivot_of y.pivot; label = (k, g.label); says = g.says }))
-  sought_one u v m Missing Missing n k = refl
+  sought_one u v m None None n k = refl
 
   same_meeting : (s : Span) (h k : Meeting) → MeetAt T s h → MeetAt T s k → h ≡ k
   same_meeting s h k x y =
@@ -248,8 +254,8 @@ module _ {T : Tables} (G : GoodTables T) where
       let b = one_by_arr G x.second y.second in
       same_fields a.0 (pivot_one h.first k.first a.1) b.0 (pivot_one h.second k.second b.1)
 
-  pub parted_one : (s : Span) (x y : Parted) → PartedAs T s x → PartedAs T s y → x ≡ y
-  parted_one s (parted.Met h) (parted.Met k) f g = ap parted.Met (same_meeting s h k f g)
-  parted_one s (parted.Met h) parted.Missing f n = absurd (n (met_halves s h f))
-  parted_one s parted.Missing (parted.Met k) n g = absurd (n (met_halves s k g))
-  parted_one s parted.Missing parted.Missing n k = refl
+  pub parted_one : (s : Span) (x y : std.Option Meeting) → PartedAs T s x → PartedAs T s y → x ≡ y
+  parted_one s (Some h) (Some k) f g = ap Some (same_meeting s h k f g)
+  parted_one s (Some h) None f n = absurd (n (met_halves s h f))
+  parted_one s None (Some k) n g = absurd (n (met_halves s k g))
+  parted_one s None None n k = refl

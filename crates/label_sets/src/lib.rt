@@ -2,18 +2,19 @@
 // of its minutes; and the two labels that meet at a label's pivot.
 #![tactic(auto)]
 
-ghost use Rattle.std.specs.Prelude.{◌≡◌, ℕ, ◌≤◌, ◌<◌, length, get_or};
+ghost use Rattle.std.specs.Prelude.{◌≡◌, ℕ, ◌*◌, ◌≤◌, ◌<◌, length, get_or};
 ghost use Rattle.loops.specs.First.{FirstAt};
 ghost use Rattle.loops.specs.Tells.{Tells};
 ghost use Rattle.kinds.specs.Limits.{no_pivot};
 ghost use Rattle.journeys.specs.Tables.{Side};
-ghost use Rattle.tables.specs.File.{tables_of, labels_of};
-ghost use Rattle.tables.specs.Good.{Room};
-ghost use Rattle.label_sets.specs.Starts.{starts_room, Started};
+ghost use Rattle.tables.specs.File.{set_of, start_of, tables_of, labels_of};
+ghost use Rattle.tables.specs.Good.{GoodFile};
+ghost use Rattle.label_sets.specs.Starts.{starts_room};
 ghost use Rattle.label_sets.specs.Seek.{PastLabel, Past, AtLabel};
 ghost use Rattle.label_sets.specs.Sets.{SetAt, SoughtIn, SoughtAs, SpanIn, PartedAs};
 
 use kinds::{Label, Stop};
+use tables::File;
 
 // A label by its ends, its minutes and its pivot (Label::NO_PIVOT for none). A pair of labels that meet at a stop is one too, with that
 // stop for its pivot.
@@ -33,13 +34,6 @@ pub enum Moment {
     Arriving(u16),
 }
 
-// A label that was looked for: its number and what it says.
-#[derive(Clone, Copy)]
-pub enum Sought {
-    Found(u16, Label),
-    Missing,
-}
-
 // The two labels that meet at a pivot: the first arrives at `mid`, the second leaves at `start`; and their pivots.
 #[derive(Clone, Copy)]
 pub struct Meeting {
@@ -49,10 +43,13 @@ pub struct Meeting {
     pub second: u16,
 }
 
+// Tables with where each of their sets starts, and behind those the number of labels.
 #[derive(Clone, Copy)]
-pub enum Parted {
-    Met(Meeting),
-    Missing,
+pub struct LabelSets<'a> {
+    pub file: File<'a>,
+    pub starts: &'a [u16],
+    ghost long: { 2 * file.stops < length starts.now },
+    ghost are: { (set : ℕ) → set ≤ 2 * file.stops → get_or starts.now set 0 ≡ start_of file.bytes.now set },
 }
 
 // The starts of two sets a stop, and behind them the number of labels.
@@ -77,6 +74,7 @@ pub fn start_at(room: &[u16], set: usize) -> usize
 fn is_past(l: Label, hub: u16, m: Moment) -> bool
     ensures { Tells (PastLabel l hub m) result }
 {
+    // not `return hub < l.hub` where the hubs differ: that answer is computed with no branch, and `seek` takes nearly twice as long
     if hub < l.hub {
         return true;
     }
@@ -103,35 +101,33 @@ fn is_at(l: Label, hub: u16, m: Moment) -> bool
 }
 
 // Where a label with this hub and this moment stands or would stand, from `from` on and up to `to`.
-pub fn seek(tables: &[u8], n: u16, from: usize, to: usize, hub: u16, m: Moment) -> usize
-    requires room { Room tables.now n }
-    requires from_le_to { (from ≤ to) × (to ≤ labels_of tables.now) }
-    ensures { FirstAt (Past (tables_of tables.now) hub m) from to result }
+#[tactic(auto, using(crate::specs::SeekLaws::seek_turns))]
+pub fn seek(file: File<'_>, from: usize, to: usize, hub: u16, m: Moment) -> usize
+    requires { (from ≤ to) × (to ≤ labels_of file.bytes.now) }
+    ensures { FirstAt (Past (tables_of file.entry.bytes.now) hub m) from to result }
 {
-    let mut k = from;
-    while k < to {
-        let l = tables::label_at(tables, n, k);
-        if is_past(l, hub, m) {
+    for k in from..to {
+        if is_past(file.label_at(k), hub, m) {
             return k;
         }
-        k += 1;
     }
-    k
+    to
 }
 
 // The same in one set, whose bounds are given: those of its labels that come at or after the place are its last ones, so that the stretch
 // in which the place lies can be halved at each turn.
-fn place_in(tables: &[u8], n: u16, from: usize, to: usize, hub: u16, m: Moment) -> usize
-    requires room { Room tables.now n }
-    requires from_le_to { (from ≤ to) × (to ≤ labels_of tables.now) }
-    ensures { (side : Side) (s : ℕ) → SetAt tables.now n side s from to →
-        FirstAt (Past (tables_of tables.now) hub m) from to result }
+#[tactic(auto, using(crate::specs::SeekLaws::place_turns))]
+fn place_in(file: File<'_>, from: usize, to: usize, hub: u16, m: Moment) -> usize
+    requires { (from ≤ to) × (to ≤ labels_of file.bytes.now) }
+    ensures { (side : Side) (s : ℕ) → SetAt file.entry.bytes.now file.entry.stops side s from to →
+        FirstAt (Past (tables_of file.entry.bytes.now) hub m) from to result }
 {
     let mut low = from;
     let mut high = to;
+    // not a counted loop: the stretch is halved
     while low < high {
         let mid = (low + high) / 2;
-        let l = tables::label_at(tables, n, mid);
+        let l = file.label_at(mid);
         if is_past(l, hub, m) {
             high = mid;
         } else {
@@ -141,68 +137,65 @@ fn place_in(tables: &[u8], n: u16, from: usize, to: usize, hub: u16, m: Moment) 
     low
 }
 
-// The label with this hub and this moment in one set, whose bounds are given.
-fn find_in(tables: &[u8], n: u16, from: usize, to: usize, hub: u16, m: Moment) -> Sought
-    requires room { Room tables.now n }
-    requires from_le_to { (from ≤ to) × (to ≤ labels_of tables.now) }
-    ensures { (side : Side) (s : ℕ) → SetAt tables.now n side s from to → SoughtIn (tables_of tables.now) side s hub m result }
-{
-    let k = place_in(tables, n, from, to, hub, m);
-    if to <= k {
-        return Sought::Missing;
+impl<'a> LabelSets<'a> {
+    // Where a set starts, or the number of labels.
+    pub fn start_at(self, set: usize) -> usize
+        requires { set ≤ 2 * self.file.stops }
+        ensures { result ≡ get_or self.entry.starts.now set 0 }
+    {
+        start_at(self.starts, set)
     }
-    let l = tables::label_at(tables, n, k);
-    if is_at(l, hub, m) {
-        return Sought::Found(k as u16, l);
-    }
-    Sought::Missing
-}
 
-// The label u to v with this moment: an out-label of u with hub v, or an in-label of v with hub u.
-pub fn find(tables: &[u8], n: u16, starts: &[u16], u: u16, v: u16, m: Moment) -> Sought
-    requires started { Started tables.now n starts.now }
-    requires u_lt_n { (u < n) × (v < n) }
-    ensures { SoughtAs (tables_of tables.now) u v m result }
-{
-    if v < u {
-        let set = 2 * (u as usize);
-        let from = start_at(starts, set);
-        let to = start_at(starts, set + 1);
-        return find_in(tables, n, from, to, v, m);
-    }
-    let set = 2 * (v as usize) + 1;
-    let from = start_at(starts, set);
-    let to = start_at(starts, set + 1);
-    find_in(tables, n, from, to, u, m)
-}
-
-// A label with a pivot is parted into the label to the pivot that leaves at the same minute and the label from the pivot that arrives at
-// the same minute, if they meet.
-pub fn halves(tables: &[u8], n: u16, starts: &[u16], s: Span) -> Parted
-    requires started { Started tables.now n starts.now }
-    requires span_in { SpanIn n s }
-    requires fact { s.pivot ≡ no_pivot → ⊥ }
-    ensures { PartedAs (tables_of tables.now) s result }
-{
-    let first = find(tables, n, starts, s.from, s.pivot, Moment::Leaving(s.dep));
-    match first {
-        Sought::Missing => Parted::Missing,
-        Sought::Found(_, x) => {
-            let second = find(tables, n, starts, s.pivot, s.to, Moment::Arriving(s.arr));
-            match second {
-                Sought::Missing => Parted::Missing,
-                Sought::Found(_, y) => {
-                    if y.dep < x.arr {
-                        return Parted::Missing;
-                    }
-                    Parted::Met(Meeting {
-                        mid: x.arr,
-                        first: x.pivot,
-                        start: y.dep,
-                        second: y.pivot,
-                    })
-                }
-            }
+    // The label with this hub and this moment in one set, by the set's number: the label's number and what it says.
+    fn find_in(self, set: usize, hub: u16, m: Moment) -> Option<(u16, Label)>
+        requires good { GoodFile self.file.bytes.now self.file.stops }
+        requires set_lt { set < 2 * self.file.stops }
+        ensures { (side : Side) (s : ℕ) → s < self.entry.file.stops → set ≡ set_of side s →
+            SoughtIn (tables_of self.entry.file.bytes.now) side s hub m result }
+    {
+        let to = self.start_at(set + 1);
+        let k = place_in(self.file, self.start_at(set), to, hub, m);
+        if to <= k {
+            return None;
         }
+        let l = self.file.label_at(k);
+        if !is_at(l, hub, m) {
+            return None;
+        }
+        Some((k as u16, l))
+    }
+
+    // The label u to v with this moment, its number and what it says: an out-label of u with hub v, or an in-label of v with hub u.
+    pub fn find(self, u: u16, v: u16, m: Moment) -> Option<(u16, Label)>
+        requires good { GoodFile self.file.bytes.now self.file.stops }
+        requires two_stops { (u < self.file.stops) × (v < self.file.stops) }
+        ensures { SoughtAs (tables_of self.entry.file.bytes.now) u v m result }
+    {
+        if v < u {
+            self.find_in(2 * (u as usize), v, m)
+        } else {
+            self.find_in(2 * (v as usize) + 1, u, m)
+        }
+    }
+
+    // A label with a pivot is parted into the label to the pivot that leaves at the same minute and the label from the pivot that arrives at
+    // the same minute, if they meet.
+    pub fn halves(self, s: Span) -> Option<Meeting>
+        requires good { GoodFile self.file.bytes.now self.file.stops }
+        requires span_in { SpanIn self.file.stops s }
+        requires with_pivot { s.pivot ≡ no_pivot → ⊥ }
+        ensures { PartedAs (tables_of self.entry.file.bytes.now) s result }
+    {
+        let (_, x) = self.find(s.from, s.pivot, Moment::Leaving(s.dep))?;
+        let (_, y) = self.find(s.pivot, s.to, Moment::Arriving(s.arr))?;
+        if y.dep < x.arr {
+            return None;
+        }
+        Some(Meeting {
+            mid: x.arr,
+            first: x.pivot,
+            start: y.dep,
+            second: y.pivot,
+        })
     }
 }

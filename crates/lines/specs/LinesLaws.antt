@@ -1,5 +1,5 @@
 -- What is known of a line that was read.
-use Rattle.std.specs.Prelude.{ℕ, ◌+◌, ◌-◌, ◌≤◌, ◌<◌, ◌≡◌, List, Bool, true, false, cond, eqb}
+use Rattle.std.specs.Prelude.{ℕ, ◌+◌, ◌-◌, ◌≤◌, ◌<◌, ◌≡◌, List, Bool, true, false, cond, eqb, Err, Ok, Result}
 use Rattle.std.proofs.Math.Path.{refl}
 use Rattle.std.proofs.Math.Bool.{not}
 use Rattle.std.proofs.Common.{arith}
@@ -12,34 +12,30 @@ use Rattle.kinds.specs.Kinds.{run_of}
 use Rattle.kinds.specs.KindsLaws.{run_good}
 use Rattle.kinds.specs.declared.Code.{Code}
 use Rattle.kinds.specs.declared.Run.{Run}
-use Rattle.kinds.specs.declared.RunRead.{RunRead}
-use Rattle.kinds.specs.declared.RunRead.TheVariants as run
 use Rattle.words.specs.Words.{space, seek, begins_b, is_word_b, is_code}
 use Rattle.words.specs.WordsLaws.{seek_low, begins_long}
 use Rattle.lookup.specs.Lookup.{stop_named}
 use Rattle.lines.specs.Lines.{numbers_at, fielded, fields_at, read_stop_line, judged, run_fields, with_fields, read_run_line}
 use Rattle.lines.specs.Lines.{run_word, stop_word, end_word, line_of, FieldsWithin}
 use Rattle.lines.specs.Fine.{FineStop, FineRun, FineLine}
-use Rattle.lines.specs.declared.NumbersRead.{NumbersRead}
-use Rattle.lines.specs.declared.NumbersRead.TheVariants as numbers
 use Rattle.lines.specs.declared.Field.{Field}
 use Rattle.lines.specs.declared.Fields.{Fields}
-use Rattle.lines.specs.declared.FieldsRead.{FieldsRead}
-use Rattle.lines.specs.declared.FieldsRead.TheVariants as fields
 use Rattle.lines.specs.declared.Line.{Line}
 use Rattle.lines.specs.declared.Line.TheVariants as line
+use Rattle.kinds.specs.declared.Reason.{Reason}
+use Rattle.lines.specs.declared.Numbers.{Numbers}
 
-fielded_good : (from to : Field) (x : NumbersRead) (f : Fields) → fielded from to x ≡ fields.Good f → (f.from ≡ from) × (f.to ≡ to)
-fielded_good from to (numbers.Good x) f h = (cc, cc)
-fielded_good from to (numbers.Bad n) f h = absurd (let y : ◌≡◌ {A = ℕ} 0 1 = cc in omega arith)
+fielded_good : (from to : Field) (x : Result Numbers Reason) (f : Fields) → fielded from to x ≡ Ok f → (f.from ≡ from) × (f.to ≡ to)
+fielded_good from to (Ok x) f h = (cc, cc)
+fielded_good from to (Err n) f h = cc
 
-pub fields_within : (s : List ℕ) (a e : ℕ) (f : Fields) → fields_at s a e ≡ fields.Good f → a ≤ e → e ≤ length s → FieldsWithin s f
+pub fields_within : (s : List ℕ) (a e : ℕ) (f : Fields) → fields_at s a e ≡ Ok f → a ≤ e → e ≤ length s → FieldsWithin s f
 unfolding fields_at
 fields_within s a e f h low high =
     let first : ℕ = seek space s a e in
     let second : ℕ = seek space s (first + 1) e in
-    let z₁ = past (leb e first) h (λ x. let y : ◌≡◌ {A = ℕ} 0 1 = cc in omega arith) in
-    let z₂ = past (leb e second) z₁.1 (λ x. let y : ◌≡◌ {A = ℕ} 0 1 = cc in omega arith) in
+    let z₁ = past (leb e first) h (λ x. cc) in
+    let z₂ = past (leb e second) z₁.1 (λ x. cc) in
     let g = fielded_good (record { at = a; end = first }) (record { at = first + 1; end = second }) (numbers_at s (second + 1) e) f z₂.1 in
     let before : first < e = leb-false e first z₁.0 in
     let before₂ : second < e = leb-false e second z₂.0 in
@@ -52,22 +48,22 @@ fields_within s a e f h low high =
     })
 
 -- what holds of both answers of a test holds of its answer
-either : (P : Line → Type 0) (b : Bool) {x y : Line} → (b ≡ true → P x) → (b ≡ false → P y) → P (cond b x y)
+either : (P : Result Line Reason → Type 0) (b : Bool) {x y : Result Line Reason} → (b ≡ true → P x) → (b ≡ false → P y) → P (cond b x y)
 either P true f g = f refl
 either P false f g = g refl
 
 module _ (s codes : List ℕ) (stops runs e : ℕ) where
-  judged_fine : (from to dep arr trip : ℕ) (x : RunRead) → run_of stops from to dep arr trip ≡ x → FineLine s codes stops runs e (judged runs x)
-  judged_fine from to dep arr trip (run.Bad n) h = tt
-  judged_fine from to dep arr trip (run.Good r) h =
+  judged_fine : (from to dep arr trip : ℕ) (x : Result Run Reason) → run_of stops from to dep arr trip ≡ x → FineLine s codes stops runs e (judged runs x)
+  judged_fine from to dep arr trip (Err n) h = tt
+  judged_fine from to dep arr trip (Ok r) h =
       let g = run_good stops from to dep arr trip r h in
       either (FineLine s codes stops runs e) (leb most_runs runs) (λ t. tt)
       (λ t. record { few = leb-false most_runs runs t; good = rw g.1 g.0 })
 
-  fields_fine : (x : FieldsRead) → FineLine s codes stops runs e (with_fields x (run_fields s codes stops runs))
+  fields_fine : (x : Result Fields Reason) → FineLine s codes stops runs e (with_fields x (run_fields s codes stops runs))
   unfolding run_fields
-  fields_fine (fields.Bad n) = tt
-  fields_fine (fields.Good f) = judged_fine _ _ _ _ _ _ refl
+  fields_fine (Err n) = tt
+  fields_fine (Ok f) = judged_fine _ _ _ _ _ _ refl
 
   run_fine : (a : ℕ) → FineLine s codes stops runs e (read_run_line s codes stops runs a e)
   unfolding read_run_line
@@ -96,8 +92,8 @@ module _ (s codes : List ℕ) (stops runs e : ℕ) where
       (λ t₃. tt)))
 
   -- a stop line, a run line
-  pub stop_known : (a : ℕ) (c : Code) → a ≤ e → line_of s codes stops runs a e ≡ line.Stop c → FineStop s codes stops e c
+  pub stop_known : (a : ℕ) (c : Code) → a ≤ e → line_of s codes stops runs a e ≡ Ok (line.Stop c) → FineStop s codes stops e c
   stop_known a c h l = (rw l at (line_fine a h)).1
 
-  pub run_known : (a : ℕ) (r : Run) → a ≤ e → line_of s codes stops runs a e ≡ line.Run r → FineRun stops runs r
+  pub run_known : (a : ℕ) (r : Run) → a ≤ e → line_of s codes stops runs a e ≡ Ok (line.Run r) → FineRun stops runs r
   run_known a r h l = rw l at (line_fine a h)

@@ -2,11 +2,13 @@
 #![tactic(auto)]
 
 ghost use Rattle.std.specs.Prelude.{◌≡◌, ◌+◌, ◌≤◌, ◌<◌, length};
+ghost use Rattle.kinds.specs.Limits.{most_text};
 ghost use Rattle.lookup.specs.Index.{CodesIndexed};
-ghost use Rattle.lines.specs.Lines.{numbers_at, fields_at, read_stop_line, run_fields, read_run_line, line_of, Stretch, FieldsWithin};
+ghost use Rattle.lines.specs.Lines.{numbers_at, fields_at, read_stop_line, run_fields, read_run_line, line_of, FieldsWithin};
 
-use kinds::{Code, Refusal, Run, RunRead, Stop};
-use words::NumberRead;
+use kinds::{Code, Reason, Run, Stop};
+use lookup::Known;
+use words::Stretch;
 
 // The numbers of a run line.
 #[derive(Clone, Copy)]
@@ -14,12 +16,6 @@ pub struct Numbers {
     pub dep: u32,
     pub arr: u32,
     pub trip: u32,
-}
-
-#[derive(Clone, Copy)]
-pub enum NumbersRead {
-    Good(Numbers),
-    Bad(u32),
 }
 
 // Where a field begins, and where it ends.
@@ -37,45 +33,33 @@ pub struct Fields {
     pub numbers: Numbers,
 }
 
-#[derive(Clone, Copy)]
-pub enum FieldsRead {
-    Good(Fields),
-    Bad(u32),
-}
-
-// What a line says: a stop's code, a run, the end, or the refusal.
+// What a line says: a stop's code, a run, or the end.
 #[derive(Clone, Copy)]
 pub enum Line {
     Stop(Code),
     Run(Run),
     End,
-    Bad(u32),
 }
 
 // DEP, ARR and TRIP: a space ends the first two, the end of the line the third.
-fn numbers_at(text: &[u8], from: usize, to: usize) -> NumbersRead
-    requires { (from ≤ to) × (to ≤ length text.now) }
-    ensures { result ≡ numbers_at text.now from to }
+#[tactic(auto, unfolding(crate::specs::Lines::numbers_at))]
+fn numbers_at(rest: Stretch<'_>) -> Result<Numbers, Reason>
+    ensures { result ≡ numbers_at rest.entry.text.now rest.entry.from rest.entry.to }
 {
-    let NumberRead::Good(dep) = words::number_at(text, from, to) else {
-        return NumbersRead::Bad(Refusal::LINE_SHAPE);
-    };
-    if to <= dep.end {
-        return NumbersRead::Bad(Refusal::LINE_SHAPE);
+    let dep = rest.number()?;
+    if rest.to <= dep.end {
+        return Err(Reason::LineShape);
     }
-    let NumberRead::Good(arr) = words::number_at(text, dep.end + 1, to) else {
-        return NumbersRead::Bad(Refusal::LINE_SHAPE);
-    };
-    if to <= arr.end {
-        return NumbersRead::Bad(Refusal::LINE_SHAPE);
+    let rest = rest.after(dep.end);
+    let arr = rest.number()?;
+    if rest.to <= arr.end {
+        return Err(Reason::LineShape);
     }
-    let NumberRead::Good(trip) = words::number_at(text, arr.end + 1, to) else {
-        return NumbersRead::Bad(Refusal::LINE_SHAPE);
-    };
-    if trip.end < to {
-        return NumbersRead::Bad(Refusal::LINE_SHAPE);
+    let trip = rest.after(arr.end).number()?;
+    if trip.end < rest.to {
+        return Err(Reason::LineShape);
     }
-    NumbersRead::Good(Numbers {
+    Ok(Numbers {
         dep: dep.value,
         arr: arr.value,
         trip: trip.value,
@@ -83,148 +67,121 @@ fn numbers_at(text: &[u8], from: usize, to: usize) -> NumbersRead
 }
 
 // The five fields after the word. A space ends FROM and TO, which may be anything else.
-fn fields_at(text: &[u8], from: usize, to: usize) -> FieldsRead
-    requires { (from ≤ to) × (to ≤ length text.now) }
-    ensures { result ≡ fields_at text.now from to }
+#[tactic(auto, unfolding(crate::specs::Lines::fields_at))]
+fn fields_at(fields: Stretch<'_>) -> Result<Fields, Reason>
+    ensures { result ≡ fields_at fields.entry.text.now fields.entry.from fields.entry.to }
 {
-    let first = words::seek(text, b' ', from, to);
-    if to <= first {
-        return FieldsRead::Bad(Refusal::LINE_SHAPE);
+    let first = fields.seek(b' ');
+    if fields.to <= first {
+        return Err(Reason::LineShape);
     }
-    let second = words::seek(text, b' ', first + 1, to);
-    if to <= second {
-        return FieldsRead::Bad(Refusal::LINE_SHAPE);
+    let rest = fields.after(first);
+    let second = rest.seek(b' ');
+    if fields.to <= second {
+        return Err(Reason::LineShape);
     }
-    let three = numbers_at(text, second + 1, to);
-    match three {
-        NumbersRead::Good(numbers) => FieldsRead::Good(Fields {
-            from: Field {
-                at: from,
-                end: first,
-            },
-            to: Field {
-                at: first + 1,
-                end: second,
-            },
-            numbers,
-        }),
-        NumbersRead::Bad(refused) => FieldsRead::Bad(refused),
-    }
-}
-
-// A stop line, whose code begins at `from`.
-fn stop_line(
-    text: &[u8],
-    codes: &[u32],
-    slots: &[u64],
-    stops: u32,
-    runs: u32,
-    from: usize,
-    to: usize,
-) -> Line
-    requires codes_indexed { CodesIndexed text.now codes.now stops slots.now }
-    requires stretch { Stretch text.now from to }
-    ensures { result ≡ read_stop_line text.now codes.now stops runs from to }
-{
-    if 0 < runs {
-        return Line::Bad(Refusal::LINE_SHAPE);
-    }
-    let n = to - from;
-    if !words::is_code(text, from, n) {
-        return Line::Bad(Refusal::CODE_BAD);
-    }
-    let j = lookup::find(text, codes, slots, stops, text, from, n);
-    if j < stops {
-        return Line::Bad(Refusal::CODE_REPEATED);
-    }
-    if Stop::MOST <= stops as usize {
-        return Line::Bad(Refusal::OVER_LIMIT);
-    }
-    Line::Stop(Code {
-        start: from as u32,
-        length: n as u32,
+    let numbers = numbers_at(rest.after(second))?;
+    Ok(Fields {
+        from: Field {
+            at: fields.from,
+            end: first,
+        },
+        to: Field {
+            at: first + 1,
+            end: second,
+        },
+        numbers,
     })
 }
 
+// A stop line, which says this code.
+#[tactic(auto, unfolding(crate::specs::Lines::read_stop_line))]
+fn stop_line(known: Known<'_>, slots: &[u64], runs: u32, code: Stretch<'_>) -> Result<Line, Reason>
+    requires codes_indexed { CodesIndexed known.text.now known.codes.now known.stops slots.now }
+    requires one_text { code.text.now ≡ known.text.now }
+    requires short { length code.text.now ≤ most_text }
+    ensures { result ≡ read_stop_line known.entry.text.now known.entry.codes.now known.entry.stops runs code.entry.from code.entry.to }
+{
+    if 0 < runs {
+        return Err(Reason::LineShape);
+    }
+    if !code.is_code() {
+        return Err(Reason::CodeBad);
+    }
+    if known.find(slots, code) < known.stops {
+        return Err(Reason::CodeRepeated);
+    }
+    if Stop::MOST <= known.stops as usize {
+        return Err(Reason::OverLimit);
+    }
+    Ok(Line::Stop(Code {
+        start: code.from as u32,
+        length: (code.to - code.from) as u32,
+    }))
+}
+
 // A run line's fields: which stops they name, the run, and whether there can be one more.
-fn run_fields(
-    text: &[u8],
-    codes: &[u32],
-    slots: &[u64],
-    stops: u32,
-    runs: u32,
-    fields: Fields,
-) -> Line
-    requires codes_indexed { CodesIndexed text.now codes.now stops slots.now }
-    requires fields_within { FieldsWithin text.now fields }
-    ensures { result ≡ run_fields text.now codes.now stops runs fields }
+#[tactic(auto, unfolding(crate::specs::Lines::run_fields))]
+fn run_fields(known: Known<'_>, slots: &[u64], runs: u32, fields: Fields) -> Result<Line, Reason>
+    requires codes_indexed { CodesIndexed known.text.now known.codes.now known.stops slots.now }
+    requires fields_within { FieldsWithin known.text.now fields }
+    ensures { result ≡ run_fields known.entry.text.now known.entry.codes.now known.entry.stops runs fields }
 {
-    let from = fields.from;
-    let to = fields.to;
     let numbers = fields.numbers;
-    let u = lookup::find(text, codes, slots, stops, text, from.at, from.end - from.at);
-    let v = lookup::find(text, codes, slots, stops, text, to.at, to.end - to.at);
-    let r = Run::new(stops, u, v, numbers.dep, numbers.arr, numbers.trip);
-    match r {
-        RunRead::Bad(refused) => Line::Bad(refused),
-        RunRead::Good(run) => {
-            if Run::MOST <= runs as usize {
-                return Line::Bad(Refusal::OVER_LIMIT);
-            }
-            Line::Run(run)
-        }
+    let from = Stretch {
+        text: known.text,
+        from: fields.from.at,
+        to: fields.from.end,
+    };
+    let to = Stretch {
+        text: known.text,
+        from: fields.to.at,
+        to: fields.to.end,
+    };
+    let u = known.find(slots, from);
+    let v = known.find(slots, to);
+    let run = Run::new(known.stops, u, v, numbers.dep, numbers.arr, numbers.trip)?;
+    if Run::MOST <= runs as usize {
+        return Err(Reason::OverLimit);
     }
+    Ok(Line::Run(run))
 }
 
-// A run line, whose fields begin at `from`.
-fn run_line(
-    text: &[u8],
-    codes: &[u32],
-    slots: &[u64],
-    stops: u32,
-    runs: u32,
-    from: usize,
-    to: usize,
-) -> Line
-    requires codes_indexed { CodesIndexed text.now codes.now stops slots.now }
-    requires stretch { Stretch text.now from to }
-    ensures { result ≡ read_run_line text.now codes.now stops runs from to }
+// A run line, of which this stands behind the word.
+#[tactic(auto, using(crate::specs::LinesLaws::fields_within), unfolding(crate::specs::Lines::read_run_line))]
+fn run_line(known: Known<'_>, slots: &[u64], runs: u32, rest: Stretch<'_>) -> Result<Line, Reason>
+    requires codes_indexed { CodesIndexed known.text.now known.codes.now known.stops slots.now }
+    requires one_text { rest.text.now ≡ known.text.now }
+    ensures { result ≡ read_run_line known.entry.text.now known.entry.codes.now known.entry.stops runs rest.entry.from rest.entry.to }
 {
-    if stops == 0 {
-        return Line::Bad(Refusal::LINE_SHAPE);
+    if known.stops == 0 {
+        return Err(Reason::LineShape);
     }
-    let shape = fields_at(text, from, to);
-    match shape {
-        FieldsRead::Bad(refused) => Line::Bad(refused),
-        FieldsRead::Good(fields) => run_fields(text, codes, slots, stops, runs, fields),
-    }
+    let fields = fields_at(rest)?;
+    run_fields(known, slots, runs, fields)
 }
 
-// A line: which of the three it is.
+// A line, which stands in the text of the codes: which of the three it is, or why it is refused.
+#[tactic(auto, using(words::specs::WordsLaws::begins_long), unfolding(crate::specs::Lines::line_of))]
 pub fn line_at(
-    text: &[u8],
-    codes: &[u32],
+    known: Known<'_>,
     slots: &[u64],
-    stops: u32,
     runs: u32,
-    from: usize,
-    to: usize,
-) -> Line
-    requires codes_indexed { CodesIndexed text.now codes.now stops slots.now }
-    requires stretch { Stretch text.now from to }
-    ensures { result ≡ line_of text.now codes.now stops runs from to }
+    line: Stretch<'_>,
+) -> Result<Line, Reason>
+    requires codes_indexed { CodesIndexed known.text.now known.codes.now known.stops slots.now }
+    requires one_text { line.text.now ≡ known.text.now }
+    requires short { length line.text.now ≤ most_text }
+    ensures { result ≡ line_of known.entry.text.now known.entry.codes.now known.entry.stops runs line.entry.from line.entry.to }
 {
-    if words::begins(text, from, to, b"run ") {
-        return run_line(text, codes, slots, stops, runs, from + 4, to);
+    if line.begins(b"run ") {
+        return run_line(known, slots, runs, line.after(line.from + 3));
     }
-    if words::begins(text, from, to, b"stop ") {
-        return stop_line(text, codes, slots, stops, runs, from + 5, to);
+    if line.begins(b"stop ") {
+        return stop_line(known, slots, runs, line.after(line.from + 4));
     }
-    if words::is_word(text, from, to, b"end") {
-        if 0 < stops {
-            return Line::End;
-        }
-        return Line::Bad(Refusal::LINE_SHAPE);
+    if line.is_word(b"end") && 0 < known.stops {
+        return Ok(Line::End);
     }
-    Line::Bad(Refusal::LINE_SHAPE)
+    Err(Reason::LineShape)
 }

@@ -9,7 +9,7 @@ use Rattle.std.proofs.Math.ListN.{get_or}
 use Rattle.loops.specs.ChainLaws.{stays}
 use Rattle.kinds.specs.Limits.{most_stops}
 use Rattle.lookup.specs.Lookup.{code_start, has_code, stop_named}
-use Rattle.lookup.specs.LookupLaws.{none_named, one_named, has_told, has_both}
+use Rattle.lookup.specs.LookupLaws.{placed_fewer, none_named, one_named, has_told, has_both}
 use Rattle.lookup.specs.Mark.{marks_below, mark_of}
 use Rattle.lookup.specs.MarkLaws.{mark_same}
 use Rattle.lookup.specs.Index.{slot_count, probes, onward_of, way, slot_for, probed, entry_of, is_entry, mark_at, CodesIndexed, Vacant, OnWay, Finding}
@@ -46,7 +46,7 @@ not_entry s codes e m t a n j f l h =
 
 pub is_entry_lem : (s codes : List ℕ) (e m : ℕ) (t : List ℕ) (a n : ℕ) → is_entry s codes e m t a n ≡ true → has_code s codes t a n (e % 256 - 1) ≡ true
 unfolding is_entry
-is_entry_lem s codes e m t a n h = (stays (eqb (e / 256) m) h (λ x. let y : ◌≡◌ {A = ℕ} 0 1 = cc in omega arith)).1
+is_entry_lem s codes e m t a n h = (stays (eqb (e / 256) m) h (λ x. cc)).1
 
 pub finding_more : {s codes slots t : List ℕ} {a n m x y p i : ℕ} → Finding s codes slots t a n m x i → i < probes → p ≡ slot_for x →
     0 < get_or slots p 0 → is_entry s codes (get_or slots p 0) m t a n ≡ false → y ≡ onward_of x → y < marks_below → Finding s codes slots t a n m y (i + 1)
@@ -108,5 +108,8 @@ module _ {s codes : List ℕ} {stops : ℕ} {slots : List ℕ} (x : CodesIndexed
       go : (i : ℕ) → j < i → i < stops → (b : Bool) → has_code s codes t a n i ≡ b → has_code s codes t a n i ≡ false
       go i f g true b =
           let z : true ≡ false = sym (has_both s codes t a n j i has b) ∙ x.no_two i g j f in
-          absurd (let y : ◌≡◌ {A = ℕ} 0 1 = cc in omega arith)
+          absurd cc
       go i f g false b = b
+
+-- what of the walk the check finds alone
+pub ruleset walk_turns = (placed_fewer, finding_vacant, finding_full, finding_empty, finding_low, finding_here)

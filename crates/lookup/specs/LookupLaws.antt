@@ -74,6 +74,9 @@ module _ {s codes : List ℕ} {stops : ℕ} {t : List ℕ} {a n k : ℕ} (f : Sc
       let e : k ≡ 0 = omega arith in
       rw (f.rest, e)
 
+-- the turns of that search
+pub ruleset scan_turns = (placed_fewer, scanning_all, scanning_here, scanning_next, scanning_end)
+
 -- where no stop is named, no stop has the code
 none_in : (s codes t : List ℕ) (a n none k : ℕ) → k ≤ none → none ≤ stop_in s codes t a n none k → (i : ℕ) → i < k → has_code s codes t a n i ≡ false
 unfolding stop_in
@@ -117,7 +120,7 @@ one_named s codes t a n none (suc k) j l e h = go (λ d. one_named s codes t a n
 pub has_told : (s codes t : List ℕ) (a n j : ℕ) → has_code s codes t a n j ≡ true → (code_length codes j ≡ n) × (same_b s (code_start codes j) t a n ≡ true)
 unfolding has_code
 has_told s codes t a n j e =
-    let z = stays (eqb (code_length codes j) n) e (λ x. let y : ◌≡◌ {A = ℕ} 0 1 = cc in omega arith) in
+    let z = stays (eqb (code_length codes j) n) e (λ x. cc) in
     (eqb-true (code_length codes j) n z.0, z.1)
 
 has_made : (s codes t : List ℕ) (a n i : ℕ) → code_length codes i ≡ n → same_b s (code_start codes i) t a n ≡ true → has_code s codes t a n i ≡ true

@@ -61,14 +61,14 @@ unfoldable pub ends_of : List ℕ → ℕ → ℕ → Ends
 ends_of t a k =
     cond (ltb k 4) (record { first = few_at t a k; last = 0 }) (record { first = word_at t (a + (k - 8)); last = word_at t (a + (k - 4)) })
 
-abbrev pub number_of : Mix → ℕ
-number_of m = 8388608 * (m.a + m.c) + (m.b + m.d)
+abbrev pub mark_number : Mix → ℕ
+mark_number m = 8388608 * (m.a + m.c) + (m.b + m.d)
 
 -- k bytes from a on: the blocks that do not reach the last byte, and then the last eight bytes, which may be partly those of the last block
 unfoldable pub mark_of_bytes : List ℕ → ℕ → ℕ → ℕ
 mark_of_bytes t a k =
     let e = ends_of t a k in
-    number_of (mixed_of (blocks_of t a (start_of_mix k) ((k - 1) / 8)) e.first e.last)
+    mark_number (mixed_of (blocks_of t a (start_of_mix k) ((k - 1) / 8)) e.first e.last)
 
 abbrev pub mark_of : List ℕ → ℕ → ℕ → ℕ
 mark_of t a n = mark_of_bytes t a (marked_bytes n)

@@ -8,6 +8,16 @@ ghost use Rattle.lookup.specs.Mark.{words_below, marks_below, Small, marked_byte
 ghost use Rattle.lookup.specs.Index.{slot_count, slot_for, onward_of, is_entry, CodesIndexed, Enterable, Vacant, Stood};
 
 use kinds::Code;
+use words::Stretch;
+
+// The codes of so many stops, which stand in the text.
+#[derive(Clone, Copy)]
+pub struct Known<'a> {
+    pub text: &'a [u8],
+    pub codes: &'a [u32],
+    pub stops: u32,
+    ghost placed: { Placed text.now codes.now stops },
+}
 
 // Where the code of stop j stands.
 pub fn code_at(codes: &[u32], j: usize) -> Code
@@ -18,20 +28,6 @@ pub fn code_at(codes: &[u32], j: usize) -> Code
         start: codes[2 * j],
         length: codes[2 * j + 1],
     }
-}
-
-// Whether stop j, whose code stands in s, has the code that is n bytes of t from `from` on.
-pub fn has_code(s: &[u8], codes: &[u32], j: usize, t: &[u8], from: usize, n: usize) -> bool
-    requires placed { Placed s.now codes.now (j + 1) }
-    requires n_in_bounds { from + n ≤ length t.now }
-    ensures { result ≡ has_code s.now codes.now t.now from n j }
-{
-    let length = codes[2 * j + 1] as usize;
-    if length == n {
-        let start = codes[2 * j] as usize;
-        return words::same(s, start, t, from, n);
-    }
-    false
 }
 
 // How many slots the index has: numbers of 64 bits, 0 where no stop stands.
@@ -67,23 +63,17 @@ struct Walked {
     place: usize,
 }
 
-fn wide(byte: u8) -> u64
-    ensures { (result ≡ byte) × (result < 256) }
-{
-    byte as u64
-}
-
 // Four bytes as a number.
+#[tactic(auto, unfolding(crate::specs::Mark::word_at))]
 fn word(t: &[u8], at: usize) -> u64
     requires { at + 4 ≤ length t.now }
     ensures { (result ≡ word_at t.now at) × (result < words_below) }
 {
-    let low = wide(t[at]) + 256 * wide(t[at + 1]);
-    let high = wide(t[at + 2]) + 256 * wide(t[at + 3]);
-    low + 65536 * high
+    u32::from_le_bytes([t[at], t[at + 1], t[at + 2], t[at + 3]]) as u64
 }
 
 // Two words mixed in.
+#[tactic(auto, unfolding(crate::specs::Mark::mixed_of), using(crate::specs::MarkLaws::mixed_small))]
 fn mixed(m: Mix, w: u64, v: u64) -> Mix
     requires small { Small m }
     requires w_lt_words_below { (w < words_below) × (v < words_below) }
@@ -100,6 +90,7 @@ fn mixed(m: Mix, w: u64, v: u64) -> Mix
 }
 
 // The first blocks of eight bytes, so many, of a code of k bytes.
+#[tactic(auto, using(crate::specs::MarkLaws::mixing_end))]
 fn blocks(t: &[u8], from: usize, k: usize, count: usize) -> Mix
     requires { (k ≤ most_code) × (from + 8 * count ≤ length t.now) }
     ensures { (result ≡ blocks_of t.now from (start_of_mix k) count) × Small result }
@@ -110,18 +101,15 @@ fn blocks(t: &[u8], from: usize, k: usize, count: usize) -> Mix
         c: 141421356,
         d: 992991361,
     };
-    let mut i = 0;
-    while i < count {
+    for i in 0..count {
         let at = from + 8 * i;
-        let w = word(t, at);
-        let v = word(t, at + 4);
-        m = mixed(m, w, v);
-        i += 1;
+        m = mixed(m, word(t, at), word(t, at + 4));
     }
     m
 }
 
 // Up to three bytes as a number.
+#[tactic(auto, unfolding(crate::specs::Mark::few_at))]
 fn few(t: &[u8], from: usize, k: usize) -> u64
     requires { from + k ≤ length t.now }
     ensures { (result ≡ few_at t.now from k) × (result < words_below) }
@@ -129,17 +117,11 @@ fn few(t: &[u8], from: usize, k: usize) -> u64
     if k == 0 {
         return 0;
     }
-    wide(t[from]) + 256 * wide(t[from + k / 2]) + 65536 * wide(t[from + (k - 1)])
-}
-
-// How many of k bytes stand before the last n.
-fn but_last(k: usize, n: usize) -> usize
-    ensures { result ≡ k - n }
-{
-    if k < n { 0 } else { k - n }
+    t[from] as u64 + 256 * t[from + k / 2] as u64 + 65536 * t[from + (k - 1)] as u64
 }
 
 // The last of k bytes as two words.
+#[tactic(auto, unfolding(crate::specs::Mark::ends_of))]
 fn end_words(t: &[u8], from: usize, k: usize) -> Ends
     requires { from + k ≤ length t.now }
     ensures { (result ≡ ends_of t.now from k) × (result.first < words_below) × (result.last < words_below) }
@@ -151,30 +133,25 @@ fn end_words(t: &[u8], from: usize, k: usize) -> Ends
         };
     }
     Ends {
-        first: word(t, from + but_last(k, 8)),
+        first: word(t, from + k.saturating_sub(8)),
         last: word(t, from + (k - 4)),
     }
 }
 
-fn marked_bytes(n: usize) -> usize
-    ensures { result ≡ marked_bytes n }
-{
-    if n < Code::MOST { n } else { Code::MOST }
-}
-
 // The code's mark: equal codes have the same one.
-fn mark(t: &[u8], from: usize, n: usize) -> u64
-    requires { from + n ≤ length t.now }
-    ensures { (result ≡ mark_of t.now from n) × (result < marks_below) }
+#[tactic(auto, unfolding(crate::specs::Mark::mark_of_bytes, crate::specs::Mark::marked_bytes))]
+fn mark(code: Stretch<'_>) -> u64
+    ensures { (result ≡ mark_of code.entry.text.now code.entry.from (code.entry.to - code.entry.from)) × (result < marks_below) }
 {
-    let k = marked_bytes(n);
-    let m = blocks(t, from, k, but_last(k, 1) / 8);
-    let e = end_words(t, from, k);
+    let k = (code.to - code.from).min(Code::MOST);
+    let m = blocks(code.text, code.from, k, k.saturating_sub(1) / 8);
+    let e = end_words(code.text, code.from, k);
     let z = mixed(m, e.first, e.last);
     8388608 * (z.a + z.c) + (z.b + z.d)
 }
 
 // The slot that a number on a mark's way stands for.
+#[tactic(auto, unfolding(crate::specs::Index::slot_for))]
 fn place(x: u64) -> usize
     ensures { (result ≡ slot_for x) × (result < slot_count) }
 {
@@ -182,6 +159,7 @@ fn place(x: u64) -> usize
 }
 
 // The next number on a mark's way.
+#[tactic(auto, unfolding(crate::specs::Index::onward_of))]
 fn onward(x: u64) -> u64
     requires { x < marks_below }
     ensures { (result ≡ onward_of x) × (result < marks_below) }
@@ -189,80 +167,87 @@ fn onward(x: u64) -> u64
     33550337 * (x % 2147483648) + x / 2147483648
 }
 
-// Whether an entry is that of a stop with the code, whose mark is m.
-fn is_entry(s: &[u8], codes: &[u32], e: u64, m: u64, t: &[u8], from: usize, n: usize) -> bool
-    requires nonzero { (0 < e % 256) × Placed s.now codes.now (e % 256) }
-    requires n_in_bounds { from + n ≤ length t.now }
-    ensures { result ≡ is_entry s.now codes.now e m t.now from n }
+// Whether stop j, whose code stands in the text, has the code.
+#[tactic(auto, unfolding(crate::specs::Lookup::has_code))]
+pub fn has_code(text: &[u8], codes: &[u32], j: usize, code: Stretch<'_>) -> bool
+    requires { Placed text.now codes.now (j + 1) }
+    ensures { result ≡ has_code text.now codes.now code.entry.text.now code.entry.from (code.entry.to - code.entry.from) j }
 {
-    if e / 256 == m {
-        return has_code(s, codes, (e % 256 - 1) as usize, t, from, n);
-    }
-    false
+    let n = code.to - code.from;
+    let own = code_at(codes, j);
+    own.length as usize == n && words::same(text, own.start as usize, code.text, code.from, n)
 }
 
-// Along the way of a code's mark: up to the stop with the code, or up to the first empty slot. Behind the last slot of the way the plain search decides.
-fn walk(
-    s: &[u8],
-    codes: &[u32],
-    slots: &[u64],
-    stops: u32,
-    t: &[u8],
-    from: usize,
-    n: usize,
-) -> Walked
-    requires codes_indexed { CodesIndexed s.now codes.now stops slots.now }
-    requires n_in_bounds { from + n ≤ length t.now }
-    ensures stop_value { result.stop ≡ stop_named s.now codes.now stops t.now from n }
-    ensures mark_value { (result.mark ≡ mark_of t.now from n) × (result.mark < marks_below) }
-    ensures vacant { stops ≤ result.stop → Vacant slots.now result.mark result.place }
-{
-    let m = mark(t, from, n);
-    let mut x = m;
-    let mut i = 0;
-    while i < PROBES {
-        let p = place(x);
-        let e = slots[p];
-        if e == 0 {
-            return Walked {
-                stop: stops,
-                mark: m,
-                place: p,
-            };
-        }
-        if is_entry(s, codes, e, m, t, from, n) {
-            return Walked {
-                stop: (e % 256 - 1) as u32,
-                mark: m,
-                place: SLOTS,
-            };
-        }
-        x = onward(x);
-        i += 1;
+impl<'a> Known<'a> {
+    // Whether an entry is that of a stop with the code, whose mark is m.
+    #[tactic(auto, unfolding(crate::specs::Index::is_entry))]
+    fn is_entry(self, e: u64, m: u64, code: Stretch<'_>) -> bool
+        requires { (0 < e % 256) × (e % 256 ≤ self.stops) }
+        ensures { result ≡ is_entry self.entry.text.now self.entry.codes.now e m code.entry.text.now code.entry.from (code.entry.to - code.entry.from) }
+    {
+        e / 256 == m && has_code(self.text, self.codes, (e % 256 - 1) as usize, code)
     }
-    Walked {
-        stop: scan(s, codes, stops, t, from, n),
-        mark: m,
-        place: SLOTS,
-    }
-}
 
-// The number of the stop with the code, or `stops`, through the index.
-pub fn find(
-    s: &[u8],
-    codes: &[u32],
-    slots: &[u64],
-    stops: u32,
-    t: &[u8],
-    from: usize,
-    n: usize,
-) -> u32
-    requires codes_indexed { CodesIndexed s.now codes.now stops slots.now }
-    requires n_in_bounds { from + n ≤ length t.now }
-    ensures { result ≡ stop_named s.now codes.now stops t.now from n }
-{
-    let w = walk(s, codes, slots, stops, t, from, n);
-    w.stop
+    // Along the way of a code's mark: up to the stop with the code, or up to the first empty slot. Behind the last slot of the way the plain search
+    // decides.
+    #[tactic(auto, using(crate::specs::IndexLaws::walk_turns))]
+    fn walk(self, slots: &[u64], code: Stretch<'_>) -> Walked
+        requires { CodesIndexed self.text.now self.codes.now self.stops slots.now }
+        ensures stop_value { result.stop ≡
+            stop_named self.entry.text.now self.entry.codes.now self.entry.stops code.entry.text.now code.entry.from (code.entry.to - code.entry.from) }
+        ensures mark_value { (result.mark ≡ mark_of code.entry.text.now code.entry.from (code.entry.to - code.entry.from)) × (result.mark < marks_below) }
+        ensures vacant { self.entry.stops ≤ result.stop → Vacant slots.now result.mark result.place }
+    {
+        let m = mark(code);
+        let mut x = m;
+        for _ in 0..PROBES {
+            let p = place(x);
+            let e = slots[p];
+            if e == 0 {
+                return Walked {
+                    stop: self.stops,
+                    mark: m,
+                    place: p,
+                };
+            }
+            if self.is_entry(e, m, code) {
+                return Walked {
+                    stop: (e % 256 - 1) as u32,
+                    mark: m,
+                    place: SLOTS,
+                };
+            }
+            x = onward(x);
+        }
+        Walked {
+            stop: self.scan(code),
+            mark: m,
+            place: SLOTS,
+        }
+    }
+
+    // The number of the stop with the code, or `stops`, through the index of the codes.
+    pub fn find(self, slots: &[u64], code: Stretch<'_>) -> u32
+        requires codes_indexed { CodesIndexed self.text.now self.codes.now self.stops slots.now }
+        ensures { result ≡
+            stop_named self.entry.text.now self.entry.codes.now self.entry.stops code.entry.text.now code.entry.from (code.entry.to - code.entry.from) }
+    {
+        self.walk(slots, code).stop
+    }
+
+    // The number of the stop with the code, or `stops`, without an index.
+    #[tactic(auto, using(crate::specs::LookupLaws::scan_turns))]
+    pub fn scan(self, code: Stretch<'_>) -> u32
+        ensures { result ≡
+            stop_named self.entry.text.now self.entry.codes.now self.entry.stops code.entry.text.now code.entry.from (code.entry.to - code.entry.from) }
+    {
+        for k in (0..self.stops).rev() {
+            if has_code(self.text, self.codes, k as usize, code) {
+                return k;
+            }
+        }
+        self.stops
+    }
 }
 
 // A stop, put into the first empty slot on its mark's way. Where there is none the plain search finds it.
@@ -277,6 +262,7 @@ fn stand(slots: &mut [u64], m: u64, p: usize, stop: u32)
 }
 
 // The code of the next stop, put into the list and into the index.
+#[tactic(auto, using(crate::specs::EnterLaws::enterable_new))]
 pub fn enter(s: &[u8], codes: &mut [u32], slots: &mut [u64], stops: u32, start: usize, n: usize)
     requires codes_indexed { CodesIndexed s.now codes.old stops slots.old }
     requires enterable { Enterable s.now codes.old stops start n }
@@ -284,24 +270,18 @@ pub fn enter(s: &[u8], codes: &mut [u32], slots: &mut [u64], stops: u32, start: 
     ensures codes_indexed_2 { CodesIndexed s.now codes.new (stops + 1) slots.new }
 {
     let j = stops as usize;
-    let w = walk(s, codes, slots, stops, s, start, n);
+    let code = Stretch {
+        text: s,
+        from: start,
+        to: start + n,
+    };
+    let w = Known {
+        text: s,
+        codes,
+        stops,
+    }
+    .walk(slots, code);
     codes[2 * j] = start as u32;
     codes[2 * j + 1] = n as u32;
     stand(slots, w.mark, w.place, stops);
-}
-
-// The number of the stop with the code, or `stops`, without an index.
-pub fn scan(s: &[u8], codes: &[u32], stops: u32, t: &[u8], from: usize, n: usize) -> u32
-    requires placed { Placed s.now codes.now stops }
-    requires n_in_bounds { from + n ≤ length t.now }
-    ensures { result ≡ stop_named s.now codes.now stops t.now from n }
-{
-    let mut k = stops;
-    while 0 < k {
-        k -= 1;
-        if has_code(s, codes, k as usize, t, from, n) {
-            return k;
-        }
-    }
-    stops
 }

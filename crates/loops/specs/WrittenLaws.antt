@@ -81,5 +81,5 @@ drop-replicate (suc n) (suc k) x = let e : k - n ≡ suc k - suc n = omega arith
 
 -- over zeros, where there is room: l and then zeros
 pub written-zeros : (l e : List ℕ) → length l ≤ length e → written l (zeros e) ≡ l ++ replicate (length e - length l) 0
-unfolding written zeros
+unfolding written
 written-zeros l e h = rw (length-replicate, take_all (length e) l h, drop-replicate)

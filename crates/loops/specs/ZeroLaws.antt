@@ -7,16 +7,13 @@ use Rattle.loops.specs.Made.{Made}
 use Rattle.loops.specs.MadeLaws.{made_all}
 
 pub zeros_is : (l : List ℕ) → zeros l ≡ replicate (length l) 0
-unfolding zeros
 zeros_is l = refl
 
 pub length-zeros : (l : List ℕ) → length (zeros l) ≡ length l
-unfolding zeros
 length-zeros l = length-replicate (length l) 0
 
 -- what is all zeros beside one list is so beside any list as long
 pub zeros_as : {x : List ℕ} (l m : List ℕ) → x ≡ zeros l → length x ≡ length m → x ≡ zeros m
-unfolding zeros
 zeros_as l m e n = e ∙ ap (λ (k : ℕ). replicate k 0) (sym (length-zeros l) ∙ sym (ap length e) ∙ n)
 
 -- the loop that zeroes makes all numbers 0

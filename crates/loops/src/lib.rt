@@ -1,66 +1,46 @@
-// What loops are made with, and no domain: lent buffers made all zero, one function a width, and all one number (the law is one,
-// specs/MadeLaws.antt); the lesser of two numbers.
+// What loops are made with, and no domain: a lent buffer made all zero, whatever the width of its numbers (specs/Zero.antt). What
+// else a loop needs is a law, in specs/.
 #![tactic(auto)]
 
-ghost use Rattle.std.specs.Prelude.{◌≡◌, min, length, replicate};
-ghost use Rattle.loops.specs.Zero.{zeros};
+ghost use Rattle.std.specs.Prelude.{◌≡◌, length, replicate};
+ghost use Rattle.loops.specs.Zero.{nought};
 
-pub fn zero_u8(s: &mut [u8])
-    ensures { s.new ≡ zeros s.old }
-{
-    let mut i = 0;
-    while i < s.len() {
-        s[i] = 0;
-        i += 1;
+// A number that buffers are lent in.
+pub trait Number: Copy {
+    ghost zero: { Self };
+
+    fn zero() -> Self
+        ensures { result ≡ zero };
+}
+
+impl Number for u8 {
+    ghost zero = { nought };
+
+    fn zero() -> u8 {
+        0
     }
 }
 
-pub fn zero_u16(s: &mut [u16])
-    ensures { s.new ≡ zeros s.old }
-{
-    let mut i = 0;
-    while i < s.len() {
-        s[i] = 0;
-        i += 1;
+impl Number for u16 {
+    ghost zero = { nought };
+
+    fn zero() -> u16 {
+        0
     }
 }
 
-pub fn zero_u32(s: &mut [u32])
-    ensures { s.new ≡ zeros s.old }
-{
-    let mut i = 0;
-    while i < s.len() {
-        s[i] = 0;
-        i += 1;
+impl Number for u32 {
+    ghost zero = { nought };
+
+    fn zero() -> u32 {
+        0
     }
 }
 
-// All numbers of a list made one number.
-pub fn fill_all(list: &mut [u16], v: u16)
-    ensures { list.new ≡ replicate (length list.old) v }
+pub fn zero<T: Number>(s: &mut [T])
+    ensures { s.new ≡ replicate (length s.old) T.zero }
 {
-    let mut k = 0;
-    while k < list.len() {
-        list[k] = v;
-        k += 1;
+    for i in 0..s.len() {
+        s[i] = T::zero();
     }
-}
-
-// The lesser of two numbers.
-pub fn lesser(a: u16, b: u16) -> u16
-    ensures { result ≡ min a b }
-{
-    if a <= b {
-        return a;
-    }
-    b
-}
-
-pub fn lesser_usize(a: usize, b: usize) -> usize
-    ensures { result ≡ min a b }
-{
-    if a < b {
-        return a;
-    }
-    b
 }

@@ -1,5 +1,7 @@
 -- Laws of choosing: the turns of the search for the lowest hub, and that what is opened at the chosen stop is the rides of the answer.
-use Rattle.std.specs.Prelude.{ℕ, ◌+◌, ◌*◌, ◌≤◌, ◌<◌, ◌≡◌, refl, List, ◌++◌, Bool, true, false, get_or}
+use Rattle.std.specs.Prelude as std
+use Rattle.std.specs.Bool.{Decides}
+use Rattle.std.specs.Prelude.{ℕ, ◌+◌, ◌*◌, ◌≤◌, ◌<◌, ◌≡◌, refl, List, ◌++◌, Bool, true, false, get_or, None, Some}
 use Rattle.std.proofs.Common.{sym, ap, subst, subst₂, ◌∙◌, arith, le_refl}
 use Rattle.std.proofs.Math.Option.{Option, some}
 use Rattle.std.proofs.Math.Decide.{dec_lt}
@@ -27,9 +29,7 @@ use Rattle.label_sets.specs.Seek.{Past}
 use Rattle.label_sets.specs.Sets.{FoundLabel, SpanIn}
 use Rattle.label_sets.specs.SeekLaws.{past_lower}
 use Rattle.label_sets.specs.SetsLaws.{outs_at, ins_at, set_bounds, stands_there, leaving_at}
-use Rattle.opening.specs.declared.Way.{Way}
-use Rattle.opening.specs.declared.Way.TheVariants.{Through, Nowhere}
-use Rattle.opening.specs.Opening.{Listed}
+use Rattle.opening.specs.Opening.{Listed, OpenedAs}
 use Rattle.opening.specs.OpenLaws.{label_pivot}
 use Rattle.opening.specs.Choosing.{Joins, JoinsAt, HubsTo, LowestHub, HubAs, Goes, by_label, by_hub, NoSketch, WayAs}
 
@@ -47,6 +47,13 @@ module _ {T : Tables} {l : kinds.Label} {d a place to : ℕ} {m : kinds.Label} (
 
   pub do_join : l.dep ≡ d → place < to → m.hub ≡ l.hub → m.arr ≡ a → l.arr ≤ m.dep → Joins T l d a place to
   do_join f lt h q le = record { leaves = f; within = lt; hub = R.hub ∙ h; arrives = R.arr ∙ q; meets = omega (arith, R.dep) }
+
+  -- the test of that label
+  pub joins_told : l.dep ≡ d → place < to → {r : Bool} → Decides r ((m.hub ≡ l.hub) × (m.arr ≡ a) × (l.arr ≤ m.dep)) → Tells (Joins T l d a place to) r
+  joins_told f lt D = record {
+    holds = λ e. let x = D.0 e in do_join f lt x.0 x.1 x.2;
+    fails = λ e j. let y = D.1 (sym R.hub ∙ j.hub, sym R.arr ∙ j.arrives, omega (arith, R.dep, j.meets)) in cc;
+  }
 
 -- ---- the loop over the out-labels of u
 
@@ -191,9 +198,9 @@ module _ {T : Tables} {u v d a : ℕ} where
   pub way_label : {k : ℕ} {l : kinds.Label} → FoundLabel T u v (Leaving d) k l → l.arr ≡ a → Goes T u v d a l.pivot
   way_label {k} {l} f e = by_label (subst (λ b. Label T u v d b (pivot_of l.pivot)) e (k, leaving_at f))
 
-  pub way-hub : ((q : Option ℕ) → ¬ (Label T u v d a q)) → (r : Way) → HubAs T u v d a r → WayAs T u v d a r
-  way-hub n (Through h) x = by_hub n x
-  way-hub n Nowhere x = record { no_label = n; no_join = x }
+  pub way-hub : ((q : Option ℕ) → ¬ (Label T u v d a q)) → (r : std.Option ℕ) → HubAs T u v d a r → WayAs T u v d a r
+  way-hub n (Some h) x = by_hub n x
+  way-hub n None x = record { no_label = n; no_join = x }
 
   -- no sketch has the pair, so no rides are chosen
   pub none_chosen : {S : Service} → NoSketch T u v d a → (l : List ℕ) → ¬ (Chosen S T u v d a l)
@@ -242,3 +249,9 @@ module _ {b : List ℕ} {n : ℕ} {room : List ℕ} (R : Started b n room) where
     pub chosen_listed : Goes (tables_of b) u v d a p → {before after : List ℕ} {k : ℕ} →
         Listed (Opens S (tables_of b) u v d a (pivot_of p)) before after k → Listed (Chosen S (tables_of b) u v d a) before after k
     chosen_listed g L = record { rides = L.rides; are = opens_chosen g L.rides L.are; count = L.count; holds = L.holds }
+
+  -- and where there are none, there are none of the answer
+  pub chosen_opened : (S : Service) {u v d a p : ℕ} → Goes (tables_of b) u v d a p → (before after : List ℕ) (r : std.Option ℕ) →
+      OpenedAs (Opens S (tables_of b) u v d a (pivot_of p)) before after r → OpenedAs (Chosen S (tables_of b) u v d a) before after r
+  chosen_opened S g before after (Some k) L = chosen_listed g L
+  chosen_opened S g before after None n = λ l h. n l (chosen_opens g l h)

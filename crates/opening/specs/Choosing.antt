@@ -1,5 +1,6 @@
 -- Where the answer (d, a) from u to v is taken apart: "for its rides, a single label goes before a joined pair, and then the lowest hub number".
-use Rattle.std.specs.Prelude.{ℕ, ◌≤◌, ◌<◌, ◌≡◌, List}
+use Rattle.std.specs.Prelude as std
+use Rattle.std.specs.Prelude.{ℕ, ◌≤◌, ◌<◌, ◌≡◌, List, None, Some}
 use Rattle.std.proofs.Math.Option.{Option}
 use Rattle.loops.specs.First.{Passed}
 use Rattle.kinds.specs.declared.Label as kinds
@@ -8,8 +9,6 @@ use Rattle.tables.specs.File.{tables_of, pivot_of}
 use Rattle.label_sets.specs.declared.Moment.TheVariants.{Arriving}
 use Rattle.label_sets.specs.Seek.{Past}
 use Rattle.label_sets.specs.Sets.{SetAt}
-use Rattle.opening.specs.declared.Way.{Way}
-use Rattle.opening.specs.declared.Way.TheVariants.{Through, Nowhere}
 
 -- label l leaves at d, and the label at this place, below `to`, has its hub, arrives at a, and leaves when l has arrived
 pub record Joins (T : Tables) (l : kinds.Label) (d a place to : ℕ) : Type 0 where
@@ -45,9 +44,9 @@ pub record LowestHub (T : Tables) (u v d a h : ℕ) : Type 0 where
   pub join : JoinAt T u v d a h
   pub none_below : (g : ℕ) → g < h → ¬ (JoinAt T u v d a g)
 
-abbrev pub HubAs : Tables → ℕ → ℕ → ℕ → ℕ → Way → Type 0
-HubAs T u v d a (Through h) = LowestHub T u v d a h
-HubAs T u v d a Nowhere = (g : ℕ) → ¬ (JoinAt T u v d a g)
+abbrev pub HubAs : Tables → ℕ → ℕ → ℕ → ℕ → std.Option ℕ → Type 0
+HubAs T u v d a (Some h) = LowestHub T u v d a h
+HubAs T u v d a None = (g : ℕ) → ¬ (JoinAt T u v d a g)
 
 -- the pivot of the single label, or else the hub; or there is no sketch with the pair
 pub data Goes (T : Tables) (u v d a p : ℕ) : Type 0 where
@@ -58,6 +57,6 @@ pub record NoSketch (T : Tables) (u v d a : ℕ) : Type 0 where
   pub no_label : (q : Option ℕ) → ¬ (Label T u v d a q)
   pub no_join : (g : ℕ) → ¬ (JoinAt T u v d a g)
 
-abbrev pub WayAs : Tables → ℕ → ℕ → ℕ → ℕ → Way → Type 0
-WayAs T u v d a (Through p) = Goes T u v d a p
-WayAs T u v d a Nowhere = NoSketch T u v d a
+abbrev pub WayAs : Tables → ℕ → ℕ → ℕ → ℕ → std.Option ℕ → Type 0
+WayAs T u v d a (Some p) = Goes T u v d a p
+WayAs T u v d a None = NoSketch T u v d a

@@ -1,5 +1,6 @@
 -- Laws of opening: what the ride that was found, the halves that meet and the rides of each say of the whole.
-use Rattle.std.specs.Prelude.{ℕ, min, ◌+◌, ◌-◌, ◌≤◌, ◌<◌, ◌≡◌, refl, List, [], ◌∷◌, ◌++◌, length}
+use Rattle.std.specs.Prelude as std
+use Rattle.std.specs.Prelude.{ℕ, min, ◌+◌, ◌-◌, ◌≤◌, ◌<◌, ◌≡◌, refl, List, [], ◌∷◌, ◌++◌, length, None, Some}
 use Rattle.std.proofs.Common.{sym, ap, subst, subst₂, ◌∙◌, arith, length-append}
 use Rattle.std.proofs.Math.Option.{some}
 use borrow.Rule.Slice.PartMut.{put_mid, mid_of}
@@ -24,8 +25,6 @@ use Rattle.label_sets.specs.declared.Meeting.{Meeting}
 use Rattle.label_sets.specs.Starts.{Started}
 use Rattle.label_sets.specs.StartsLaws.{started_stops}
 use Rattle.label_sets.specs.Sets.{SpanIn, MeetAt, SpanRide}
-use Rattle.opening.specs.declared.Opened.{Opened}
-use Rattle.opening.specs.declared.Opened.TheVariants.{Rides, Missing}
 use Rattle.opening.specs.Opening.{first_half, second_half, SpanOpens, Listed, OpenedInto}
 
 -- ---- with no pivot
@@ -128,11 +127,11 @@ halves_missing s some_pivot n l o =
     n (record { mid = r.mid; start = r.start; pivot₁ = r.pivot₁; pivot₂ = r.pivot₂; first = r.first; second = r.second; meets = r.meets })
 
 -- ---- where one list at most is the rides, no second answer and no second list meet the contract
-pub opened_one : (P : List ℕ → Type 0) → ((l m : List ℕ) → P l → P m → l ≡ m) → (before x y : List ℕ) (r s : Opened) →
+pub opened_one : (P : List ℕ → Type 0) → ((l m : List ℕ) → P l → P m → l ≡ m) → (before x y : List ℕ) (r s : std.Option ℕ) →
     OpenedInto P before x r → OpenedInto P before y s → (r ≡ s) × (x ≡ y)
-opened_one P one before x y (Rides j) (Rides k) f g =
+opened_one P one before x y (Some j) (Some k) f g =
     let e = one f.rides g.rides f.are g.are in
-    (ap Rides (f.count ∙ ap length e ∙ sym g.count), f.holds ∙ ap (λ l. written (listed l) before) e ∙ sym g.holds)
-opened_one P one before x y (Rides j) Missing f g = absurd (g.0 f.rides f.are)
-opened_one P one before x y Missing (Rides k) f g = absurd (f.0 g.rides g.are)
-opened_one P one before x y Missing Missing f g = (refl, f.1 ∙ sym g.1)
+    (ap Some (f.count ∙ ap length e ∙ sym g.count), f.holds ∙ ap (λ l. written (listed l) before) e ∙ sym g.holds)
+opened_one P one before x y (Some j) None f g = absurd (g.0 f.rides f.are)
+opened_one P one before x y None (Some k) f g = absurd (f.0 g.rides g.are)
+opened_one P one before x y None None f g = (refl, f.1 ∙ sym g.1)

@@ -1,5 +1,5 @@
 -- Rides opened into a lent list.
-use Rattle.std.specs.Prelude.{ℕ, ◌-◌, ◌≤◌, ◌≡◌, List, length}
+use Rattle.std.specs.Prelude.{ℕ, ◌-◌, ◌≤◌, ◌≡◌, List, length, None, Option, Some}
 use borrow.Rule.Slice.PartMut.{mid_of}
 use Rattle.loops.specs.Written.{written}
 use Rattle.loops.specs.Zero.{zeros}
@@ -13,8 +13,6 @@ use Rattle.departures.specs.Departures.{ByDeparture}
 use Rattle.label_sets.specs.Starts.{starts_room, Started}
 use Rattle.label_sets.specs.declared.Span.{Span}
 use Rattle.label_sets.specs.declared.Meeting.{Meeting}
-use Rattle.opening.specs.declared.Opened.{Opened}
-use Rattle.opening.specs.declared.Opened.TheVariants.{Rides, Missing}
 
 -- the part of the room behind the starts
 abbrev pub behind_starts : List ℕ → List ℕ
@@ -46,11 +44,11 @@ pub record Listed (P : List ℕ → Type 0) (before after : List ℕ) (k : ℕ) 
   pub holds : after ≡ written (listed rides) before
 
 -- "If a run or a label is missing, or the two labels don't meet": no list is the rides
-abbrev pub OpenedAs : (List ℕ → Type 0) → List ℕ → List ℕ → Opened → Type 0
-OpenedAs P before after (Rides k) = Listed P before after k
-OpenedAs P before after Missing = (l : List ℕ) → ¬ (P l)
+abbrev pub OpenedAs : (List ℕ → Type 0) → List ℕ → List ℕ → Option ℕ → Type 0
+OpenedAs P before after (Some k) = Listed P before after k
+OpenedAs P before after None = (l : List ℕ) → ¬ (P l)
 
 -- the same, and where there are none the lent list is all zero
-abbrev pub OpenedInto : (List ℕ → Type 0) → List ℕ → List ℕ → Opened → Type 0
-OpenedInto P before after (Rides k) = Listed P before after k
-OpenedInto P before after Missing = ((l : List ℕ) → ¬ (P l)) × (after ≡ zeros before)
+abbrev pub OpenedInto : (List ℕ → Type 0) → List ℕ → List ℕ → Option ℕ → Type 0
+OpenedInto P before after (Some k) = Listed P before after k
+OpenedInto P before after None = ((l : List ℕ) → ¬ (P l)) × (after ≡ zeros before)

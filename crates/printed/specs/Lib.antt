@@ -3,6 +3,7 @@ pub mod Decimal
 pub mod DecimalLaws
 pub mod Wrote
 pub mod Copying
+pub mod CopyingLaws
 pub mod WroteLaws
 pub mod ReadBackLaws
 pub mod LineLaws

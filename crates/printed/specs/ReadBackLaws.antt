@@ -1,5 +1,5 @@
 -- A number that was printed is read back: words' `number_at` reads what `decimal` printed, up to the limit of five digits.
-use Rattle.std.specs.Prelude.{ℕ, zero, suc, ◌+◌, ◌/◌, ◌%◌, ◌^◌, ◌≤◌, ◌<◌, ◌≡◌, refl, List, [], ◌∷◌, true, ◌⊎◌, length, get_or}
+use Rattle.std.specs.Prelude.{ℕ, zero, suc, ◌+◌, ◌/◌, ◌%◌, ◌^◌, ◌≤◌, ◌<◌, ◌≡◌, refl, List, [], ◌∷◌, true, ◌⊎◌, length, get_or, Ok}
 use Rattle.std.proofs.Common.{ap, sym, ◌∙◌, inl, inr, arith, add-zero, zero-add, length-append}
 use Rattle.std.proofs.Math.Decide.{dec_lt}
 use Rattle.std.proofs.Math.ListN.{get_or-append}
@@ -8,7 +8,6 @@ use Rattle.words.specs.Words.{space, digit0, seek, is_digit, value_of, number_at
 use Rattle.words.specs.Digits.{NumberForm}
 use Rattle.words.specs.WordsLaws.{seek_here, seek_end, seek_past}
 use Rattle.words.specs.DigitsLaws.{is_digit_lem, digit_low, value_none, value_more, zero_value, value_same, number_good}
-use Rattle.words.specs.declared.NumberRead.TheVariants.{Good}
 use Rattle.printed.specs.Printed.{digit, with_digit, digits_in, most_digits, decimal}
 use Rattle.printed.specs.Decimal.{Decimal}
 use Rattle.printed.specs.DecimalLaws.{in_small, in_more, tenth, decimal_short}
@@ -100,5 +99,5 @@ module _ (s : List ℕ) (a e n : ℕ) (small : n < 100000) (fits : a + length (d
   valued : value_of s a (length (decimal n)) ≡ n
   valued = value_same s a (decimal n) 0 (length (decimal n)) (λ k l. rw (zero-add k) (same k l)) ∙ printed.value
 
-  pub read_back : number_at s a e ≡ Good (record { value = n; end = a + length (decimal n) })
+  pub read_back : number_at s a e ≡ Ok (record { value = n; end = a + length (decimal n) })
   read_back = number_good s a e (length (decimal n)) formed sought ∙ rw valued

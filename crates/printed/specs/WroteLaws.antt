@@ -1,13 +1,16 @@
 -- Laws of what was written: one piece after the other, and what the buffer then holds.
-use Rattle.std.specs.Prelude.{ℕ, ◌+◌, ◌/◌, ◌%◌, ◌^◌, ◌≤◌, ◌<◌, ◌≡◌, refl, List, [], ◌∷◌, ◌++◌, length, get_or, take, drop, set}
-use Rattle.std.proofs.Common.{ap, sym, ◌∙◌, arith, zero-add, add-one, length-append, length-drop, take_all, take-suc, get_or-take, get_or-drop}
+use Rattle.std.specs.Prelude.{ℕ, suc, ◌-◌, ◌+◌, ◌/◌, ◌%◌, ◌^◌, ◌≤◌, ◌<◌, ◌≡◌, refl, List, [], ◌∷◌, ◌++◌, length, get_or, take, drop, set}
+use Rattle.std.proofs.Common.{ap, sym, ◌∙◌, arith, zero-add, add-one, length-append, length-drop, length-set, take_all, get_or-take, get_or-drop}
 use Rattle.std.proofs.Common.{length-take-le, ext_get_or}
 use Rattle.loops.specs.Put.{put_from}
 use Rattle.loops.specs.PutLaws.{put_length, put_append, put_at}
 use Rattle.printed.specs.Printed.{digit, most_digits, decimal}
-use Rattle.printed.specs.DecimalLaws.{decimal_small, decimal_more}
+use Rattle.printed.specs.DecimalLaws.{decimal_small, decimal_more, decimal_tenth, decimal-length}
 use Rattle.printed.specs.Wrote.{Wrote}
-use Rattle.printed.specs.Copying.{Copying}
+use Rattle.std.specs.List.{between}
+use borrow.Rule.Slice.PartMut.{put_mid}
+use Rattle.std.proofs.lemmas.List.Edits.{sets, sets-eq}
+use Rattle.std.proofs.lemmas.Slice.{put_mid-paste}
 
 module _ {l : List ℕ} {i : ℕ} {xs m : List ℕ} {j : ℕ} (w : Wrote l i xs m j) where
   pub wrote_length : length m ≡ length l
@@ -37,27 +40,6 @@ wrote_first {l} {xs} {m} {j} w h = ext_get_or 0 (take j m) xs long (λ k lt. at 
         get_or-take j m k 0 (omega (arith, w.end)) ∙ rw w.is (ap (λ (p : ℕ). get_or (put_from l 0 xs) p 0) (sym (zero-add k)) ∙ put_at l 0 xs k lt
         (omega arith))
 
--- the loop that copies
-pub copying_none : (l : List ℕ) (i : ℕ) (xs : List ℕ) → Copying l i xs l 0
-copying_none l i xs = record { is = refl; high = omega arith }
-
-module _ {l : List ℕ} {i : ℕ} {xs m : List ℕ} {k : ℕ} (c : Copying l i xs m k) where
-  pub copying_length : length m ≡ length l
-  copying_length = rw c.is (put_length l i (take k xs))
-
-  pub copying_more : k < length xs → (x : ℕ) → x ≡ get_or xs k 0 → Copying l i xs (set m (i + k) x) (k + 1)
-  copying_more h x e =
-      record {
-        is =
-            let p = put_append (take k xs) l i (x ∷ []) in
-            let n : length (take k xs) ≡ k = length-take-le k xs (omega arith) in
-            rw (add-one, take-suc xs k 0 h, ← e, ← p, n, ← c.is);
-        high = omega arith;
-      }
-
-  pub copying_end : length xs ≤ k → m ≡ put_from l i xs
-  copying_end h = c.is ∙ ap (put_from l i) (take_all k xs h)
-
 -- n bytes of a list from a place on
 module _ (s : List ℕ) (from n : ℕ) (h : from + n ≤ length s) where
   pub part_length : length (take n (drop from s)) ≡ n
@@ -65,6 +47,23 @@ module _ (s : List ℕ) (from n : ℕ) (h : from + n ≤ length s) where
 
   pub part_at : (k : ℕ) → k < n → get_or s (from + k) 0 ≡ get_or (take n (drop from s)) k 0
   part_at k lt = rw (get_or-take n (drop from s) k 0 lt, get_or-drop)
+
+-- bytes copied into a part of the buffer
+puts_all : (xs l : List ℕ) (i : ℕ) → put_from l i xs ≡ sets l i xs
+puts_all [] l i = refl
+puts_all (x ∷ xs) l i = rw add-one (puts_all xs (set l i x) (suc i))
+
+pub wrote_part : (l : List ℕ) (i : ℕ) (s : List ℕ) (from n : ℕ) (xs : List ℕ) → i + n ≤ length l → from + n ≤ length s → xs ≡ between from (from + n) s →
+    Wrote l i (take n (drop from s)) (put_mid i (i + n - i) l xs) (i + n)
+wrote_part l i s from n xs h f e =
+    let ys : List ℕ = take n (drop from s) in
+    let long : length ys ≡ n = part_length s from n f in
+    let same : xs ≡ ys = e ∙ ap (λ (k : ℕ). take k (drop from s)) (omega arith) in
+    let placed : put_from l i ys ≡ take i l ++ ys ++ drop (i + n) l = puts_all ys l i ∙ rw (sets-eq ys l i (omega arith), long) in
+    record {
+      is = put_mid-paste i (i + n - i) l xs ys n same (omega arith) (sym long) ∙ rw (take_all n ys (omega arith)) (sym placed);
+      end = ap (λ (k : ℕ). i + k) (sym long);
+    }
 
 -- a number of one digit; and of one digit more than its tenth
 pub wrote_digit : (l : List ℕ) (i n : ℕ) → n < 10 → Wrote l i (decimal n) (set l i (digit n)) (i + 1)
@@ -77,3 +76,9 @@ wrote_tenth n h k w = rw (decimal_more n h k) (wrote_then w (record { is = refl;
 -- a byte before
 pub wrote_after : {l m : List ℕ} {i j : ℕ} {x : ℕ} {xs : List ℕ} → Wrote (set l i x) (i + 1) xs m j → Wrote l i (x ∷ xs) m j
 wrote_after w = record { is = w.is; end = omega (arith, w.end) }
+
+-- a number's digits, one after the other
+pub ruleset decimal_turns = (decimal_small, decimal_tenth, wrote_digit, wrote_tenth)
+
+-- a piece behind one byte: a number, a code
+pub ruleset piece_steps = (wrote_after, part_length, decimal-length, length-set)

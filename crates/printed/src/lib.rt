@@ -25,19 +25,17 @@ pub fn line_room() -> usize
 }
 
 // n bytes of s from `from` on.
+#[tactic(auto, using(crate::specs::WroteLaws::wrote_part))]
 pub fn put_part(out: &mut [u8], at: usize, s: &[u8], from: usize, n: usize) -> usize
     requires { (at + n ≤ length out.old) × (from + n ≤ length s.now) }
     ensures { Wrote out.old at (take n (drop from s.now)) out.new result }
 {
-    let mut k = 0;
-    while k < n {
-        out[at + k] = s[from + k];
-        k += 1;
-    }
+    out[at..at + n].copy_from_slice(&s[from..from + n]);
     at + n
 }
 
-// A number in decimal: its tenth first, then its last digit.
+// A number in decimal: its tenth first, then its last digit. A recursion, and not std's `write!`, which goes through a formatter for each number.
+#[tactic(auto, using(crate::specs::WroteLaws::decimal_turns))]
 fn put_decimal(out: &mut [u8], at: usize, n: u32) -> usize
     requires { at + length (decimal n) ≤ length out.old }
     ensures { Wrote out.old at (decimal n) out.new result }
@@ -52,6 +50,7 @@ fn put_decimal(out: &mut [u8], at: usize, n: u32) -> usize
 }
 
 // A space and a number.
+#[tactic(auto, using(crate::specs::WroteLaws::piece_steps))]
 pub fn put_number(out: &mut [u8], at: usize, n: u32) -> usize
     requires { at + 1 + most_digits ≤ length out.old }
     ensures wrote { Wrote out.old at (space ∷ decimal n) out.new result }
@@ -62,6 +61,7 @@ pub fn put_number(out: &mut [u8], at: usize, n: u32) -> usize
 }
 
 // A space and a code.
+#[tactic(auto, using(crate::specs::WroteLaws::piece_steps))]
 pub fn put_code(out: &mut [u8], at: usize, text: &[u8], code: Code) -> usize
     requires most_code_in_bounds { at + 1 + most_code ≤ length out.old }
     requires code_in { CodeIn text.now code }

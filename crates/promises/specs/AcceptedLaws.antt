@@ -1,5 +1,5 @@
 -- What is judged good and accepted serves the timetable, whoever made it; and the check, and then the ask.
-use Rattle.std.specs.Prelude.{ℕ, ◌≤◌, ◌≡◌, refl, List, ◌≢◌}
+use Rattle.std.specs.Prelude.{ℕ, ◌≤◌, ◌≡◌, refl, List, ◌≢◌, Err, Ok, Result}
 use Rattle.std.proofs.Common.{sym, subst, ◌∙◌}
 use Rattle.loops.specs.Zero.{zeros}
 use Rattle.loops.specs.ZeroLaws.{length-zeros, zeros_as}
@@ -8,7 +8,6 @@ use Rattle.journeys.specs.Service.{Service, GoodService}
 use Rattle.journeys.specs.Tables.{Tables, GoodTables}
 use Rattle.journeys.specs.Check as the
 use Rattle.journeys.proofs.AcceptedLaws.{accepted_best, accepted_nothing}
-use Rattle.tables.specs.declared.TablesRead.TheVariants as tables
 use Rattle.tables.specs.File.{tables_of}
 use Rattle.tables.specs.Judged.{judged_tables}
 use Rattle.tables.specs.GoodLaws.{judged_good, good_judged}
@@ -17,42 +16,37 @@ use Rattle.timetable.specs.declared.Given.{Given}
 use Rattle.timetable.specs.Numbers.{GoodNumbers}
 use Rattle.timetable.specs.Slots.{service_of}
 use Rattle.timetable.proofs.SlotsLaws.{good_service, service_stops}
-use Rattle.asks.specs.declared.AskRead.{AskRead}
-use Rattle.asks.specs.declared.AskRead.TheVariants as ask
 use Rattle.asks.specs.declared.Asked.{Asked}
 use Rattle.asks.specs.declared.Wanted.{Wanted}
-use Rattle.asks.specs.declared.Answer.{Answer}
-use Rattle.asks.specs.declared.Answer.TheVariants.{At, No}
 use Rattle.asks.specs.Asks.{ask_read, asked, Answers}
 use Rattle.asks.proofs.AskLaws.{ask_good, asked_of}
-use Rattle.verdict.specs.declared.Verdict.{Verdict}
-use Rattle.verdict.specs.declared.Verdict.TheVariants as verdict
 use Rattle.both.specs.Both.{work_room}
 use Rattle.both.specs.BothLaws.{judged_both_lem}
 use Rattle.verdict.specs.Verdict.{CheckedAs, Answered, Checked}
 use Rattle.verdict.specs.VerdictLaws.{accepted_tables, accepts}
-use Rattle.rides.specs.declared.RidesAnswer.{RidesAnswer}
-use Rattle.rides.specs.declared.RidesAnswer.TheVariants as rides
 use Rattle.rides.specs.Lists.{rides_asked, Lists}
 use Rattle.rides.specs.ListsLaws.{rides_asked_of}
 use Rattle.rides.specs.AcceptedLaws.{truly_lists}
 use Rattle.promises.specs.Calls.{TimetableAnswers, CheckedAsk, TimetableLists, CheckedRides, Serves}
+use Rattle.asks.specs.declared.Journey.{Journey}
+use Rattle.rides.specs.declared.Listed.{Listed}
 
 -- over accepted tables what the asks answer is the timetable's
 module _ {S : Service} (G : GoodService S) {T : Tables} (good : GoodTables T) (same : T.stops ≡ S.stops) (ok : the.Accepted S T) where
-  truly : (k : AskRead) (x : Answer) → ((q : Asked) → k ≡ ask.Good q → q.from ≢ q.to) → Answers T k x → TimetableAnswers S k x
-  truly (ask.No r) x apart f = f
-  truly (ask.Good q) (At j) apart f = (accepted_best G good same ok (apart q refl) q.criterion j.dep j.arr).0 f
-  truly (ask.Good q) (No r) apart f = (f.0, (accepted_nothing G good same ok (apart q refl) q.criterion).0 f.1)
+  truly : (k : Result Asked Refusal) (x : Result Journey Refusal) → ((q : Asked) → k ≡ Ok q → q.from ≢ q.to) → Answers T k x → TimetableAnswers S k x
+  truly (Err r) x apart f = f
+  truly (Ok q) (Ok j) apart f = (accepted_best G good same ok (apart q refl) q.criterion j.dep j.arr).0 f
+  truly (Ok q) (Err r) apart f = (f.0, (accepted_nothing G good same ok (apart q refl) q.criterion).0 f.1)
 
-  lists_truly : (k : AskRead) → ((q : Asked) → k ≡ ask.Good q → q.from ≢ q.to) → (before after : List ℕ) (x : RidesAnswer) → Lists S T k before after x →
+  lists_truly : (k : Result Asked Refusal) → ((q : Asked) → k ≡ Ok q → q.from ≢ q.to) → (before after : List ℕ) (x : Result Listed Refusal) →
+      Lists S T k before after x →
       TimetableLists S T k before after x
-  lists_truly (ask.No r) apart before after x f = f
-  lists_truly (ask.Good q) apart before after x f = truly_lists G good same ok q (apart q refl) before after x f
+  lists_truly (Err r) apart before after x f = f
+  lists_truly (Ok q) apart before after x f = truly_lists G good same ok q (apart q refl) before after x f
 
 -- a file that is judged good, for good numbers of the same stop count
-module _ {given : Given} {list : List ℕ} (b : List ℕ) (g : GoodNumbers given list) (e : judged_tables b ≡ tables.Good given.stops) where
-  pub outcome : {lent : ℕ} {r : Verdict} → work_room ≤ lent → Checked b given list lent r → CheckedAs (service_of given list) (tables_of b) r
+module _ {given : Given} {list : List ℕ} (b : List ℕ) (g : GoodNumbers given list) (e : judged_tables b ≡ Ok given.stops) where
+  pub outcome : {lent : ℕ} {r : Result Unit Refusal} → work_room ≤ lent → Checked b given list lent r → CheckedAs (service_of given list) (tables_of b) r
   outcome {lent} {r} h c = subst (λ k. Answered k (service_of given list) (tables_of b) r) (judged_both_lem b given list lent e g h) c
 
   pub serves : the.Accepted (service_of given list) (tables_of b) → Serves given list b
@@ -71,38 +65,38 @@ module _ {given : Given} {list : List ℕ} (b : List ℕ) (g : GoodNumbers given
       }
 
 -- Demand 3 of a file: what the check accepts serves, whoever made it
-pub accepted_serves : (b : List ℕ) (given : Given) (list : List ℕ) (lent : ℕ) → Checked b given list lent verdict.Accepted → Serves given list b
+pub accepted_serves : (b : List ℕ) (given : Given) (list : List ℕ) (lent : ℕ) → Checked b given list lent (Ok tt) → Serves given list b
 accepted_serves b given list lent c =
     let a = accepted_tables b given list lent c refl in
     serves b a.numbers (good_judged b given.stops a.file) a.accepted
 
 -- ---- the check, and then the ask
 
-module _ (b : List ℕ) (given : Given) (list : List ℕ) (lent from to : ℕ) (w : Wanted) {v : Verdict} (c : Checked b given list lent v) where
-  pub after_accepted : v ≡ verdict.Accepted → (x : Answer) → Answers (tables_of b) (asked b from to w) x → CheckedAsk b given list lent from to w x
+module _ (b : List ℕ) (given : Given) (list : List ℕ) (lent from to : ℕ) (w : Wanted) {v : Result Unit Refusal} (c : Checked b given list lent v) where
+  pub after_accepted : v ≡ (Ok tt) → (x : Result Journey Refusal) → Answers (tables_of b) (asked b from to w) x → CheckedAsk b given list lent from to w x
   after_accepted e x f =
       let d = subst (Checked b given list lent) e c in
-      record { verdict = verdict.Accepted; checked = d; answer = (accepted_serves b given list lent d).asks from to w x f }
+      record { verdict = (Ok tt); checked = d; answer = (accepted_serves b given list lent d).asks from to w x f }
 
-  pub after_refused : {r : Refusal} → v ≡ verdict.No r → CheckedAsk b given list lent from to w (No r)
-  after_refused {r} e = record { verdict = verdict.No r; checked = subst (Checked b given list lent) e c; answer = refl }
+  pub after_refused : {r : Refusal} → v ≡ Err r → CheckedAsk b given list lent from to w (Err r)
+  after_refused {r} e = record { verdict = Err r; checked = subst (Checked b given list lent) e c; answer = refl }
 
   -- the room that the check leaves is all zeros, and as long as it was
-  pub rides_accepted : (before : List ℕ) → v ≡ verdict.Accepted → {m : ℕ} → m ≡ lent → (after : List ℕ) (x : RidesAnswer) →
+  pub rides_accepted : (before : List ℕ) → v ≡ (Ok tt) → {m : ℕ} → m ≡ lent → (after : List ℕ) (x : Result Listed Refusal) →
       Lists (service_of given list) (tables_of b) (rides_asked b given list m from to w) before after x → CheckedRides b given list lent from to w before
       after x
   rides_accepted before e {m} q after x f =
       let d = subst (Checked b given list lent) e c in
       record {
-        verdict = verdict.Accepted;
+        verdict = (Ok tt);
         checked = d;
         answer = (accepted_serves b given list lent d).rides lent from to w before after x (accepted_tables b given list lent d refl).room
             (subst (λ k. Lists (service_of given list) (tables_of b) (rides_asked b given list k from to w) before after x) q f);
       }
 
-  pub rides_refused : (before : List ℕ) {r : Refusal} → v ≡ verdict.No r → {after : List ℕ} → after ≡ zeros before →
-      CheckedRides b given list lent from to w before after (rides.No r)
-  rides_refused before {r} e z = record { verdict = verdict.No r; checked = subst (Checked b given list lent) e c; answer = (refl, z) }
+  pub rides_refused : (before : List ℕ) {r : Refusal} → v ≡ Err r → {after : List ℕ} → after ≡ zeros before →
+      CheckedRides b given list lent from to w before after (Err r)
+  rides_refused before {r} e z = record { verdict = Err r; checked = subst (Checked b given list lent) e c; answer = (refl, z) }
 
 pub zeros_again : (l : List ℕ) → zeros (zeros l) ≡ zeros l
 zeros_again l = zeros_as (zeros l) l refl (length-zeros (zeros l) ∙ length-zeros l)

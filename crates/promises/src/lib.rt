@@ -6,11 +6,10 @@ ghost use Rattle.std.specs.Prelude.{◌≡◌, length};
 ghost use Rattle.loops.specs.Zero.{zeros};
 ghost use Rattle.promises.specs.Calls.{CheckedAsk, CheckedRides, BuiltAsk, BuiltRides};
 
-use asks::{Answer, Wanted};
-use builder::BuildAnswer;
-use rides::RidesAnswer;
+use asks::{Journey, Wanted};
+use kinds::Refusal;
+use rides::Listed;
 use timetable::Given;
-use verdict::Verdict;
 
 // Any ask of tables that the check accepts against the timetable; else the check's refusal.
 pub fn checked_ask(
@@ -21,15 +20,12 @@ pub fn checked_ask(
     to: u32,
     w: Wanted,
     work: &mut [u16],
-) -> Answer
+) -> Result<Journey, Refusal>
     ensures checked_ask { CheckedAsk tables.now given runs.now (length work.old) from to w result }
     ensures work_after { work.new ≡ zeros work.old }
 {
-    let verdict = verdict::check(tables, given, runs, work);
-    match verdict {
-        Verdict::Accepted => asks::answered(tables, from, to, w),
-        Verdict::No(r) => Answer::No(r),
-    }
+    verdict::check(tables, given, runs, work)?;
+    asks::answered(tables, from, to, w)
 }
 
 // The same with the rides. The check's working room serves the ask as well: both need the same.
@@ -42,17 +38,16 @@ pub fn checked_rides(
     w: Wanted,
     list: &mut [u32],
     work: &mut [u16],
-) -> RidesAnswer
+) -> Result<Listed, Refusal>
     ensures checked_rides { CheckedRides tables.now given runs.now (length work.old) from to w list.old
         list.new result }
     ensures work_after { work.new ≡ zeros work.old }
 {
-    let verdict = verdict::check(tables, given, runs, work);
-    match verdict {
-        Verdict::Accepted => rides::answered(tables, given, runs, from, to, w, list, work),
-        Verdict::No(r) => {
-            loops::zero_u32(list);
-            RidesAnswer::No(r)
+    match verdict::check(tables, given, runs, work) {
+        Ok(()) => rides::answered(tables, given, runs, from, to, w, list, work),
+        Err(r) => {
+            loops::zero(list);
+            Err(r)
         }
     }
 }
@@ -66,24 +61,16 @@ pub fn built_ask(
     w: Wanted,
     tables: &mut [u8],
     work: &mut [u16],
-) -> Answer
+) -> Result<Journey, Refusal>
     ensures built_ask { BuiltAsk given runs.now (length work.old) (length tables.old) from to w tables.new result }
     ensures work_after { work.new ≡ zeros work.old }
 {
-    let answer = builder::build(given, runs, tables, work);
-    match answer {
-        BuildAnswer::Built(length, _labels) => {
-            let asked = asks::answered(&tables[..length as usize], from, to, w);
-            match asked {
-                Answer::At(j) => Answer::At(j),
-                Answer::No(r) => {
-                    loops::zero_u8(tables);
-                    Answer::No(r)
-                }
-            }
-        }
-        BuildAnswer::No(r) => Answer::No(r),
+    let built = builder::build(given, runs, tables, work)?;
+    let asked = asks::answered(&tables[..built.length as usize], from, to, w);
+    if asked.is_err() {
+        loops::zero(tables);
     }
+    asked
 }
 
 // The same with the rides. The builder's working room serves the ask as well: it needs less.
@@ -96,35 +83,23 @@ pub fn built_rides(
     list: &mut [u32],
     tables: &mut [u8],
     work: &mut [u16],
-) -> RidesAnswer
+) -> Result<Listed, Refusal>
     ensures built_rides { BuiltRides given runs.now (length work.old) (length tables.old) from to w tables.new
         list.old list.new result }
     ensures work_after { work.new ≡ zeros work.old }
 {
-    let answer = builder::build(given, runs, tables, work);
-    match answer {
-        BuildAnswer::Built(length, _labels) => {
-            let asked = rides::answered(
-                &tables[..length as usize],
-                given,
-                runs,
-                from,
-                to,
-                w,
-                list,
-                work,
-            );
-            match asked {
-                RidesAnswer::At(j) => RidesAnswer::At(j),
-                RidesAnswer::No(r) => {
-                    loops::zero_u8(tables);
-                    RidesAnswer::No(r)
-                }
+    match builder::build(given, runs, tables, work) {
+        Ok(built) => {
+            let file = &tables[..built.length as usize];
+            let asked = rides::answered(file, given, runs, from, to, w, list, work);
+            if asked.is_err() {
+                loops::zero(tables);
             }
+            asked
         }
-        BuildAnswer::No(r) => {
-            loops::zero_u32(list);
-            RidesAnswer::No(r)
+        Err(r) => {
+            loops::zero(list);
+            Err(r)
         }
     }
 }

@@ -1,8 +1,9 @@
 -- What a timetable text means: line by line, with what was read so far; "The first bad line decides."
 use Rattle.std.specs.Prelude.{ℕ, zero, suc, ◌+◌, ◌*◌, ◌≤◌, ◌<◌, ◌≡◌, List, [], ◌∷◌, ◌++◌, true, false, cond, length, get_or, replicate, ltb, leb}
+use Rattle.std.specs.Prelude.{Err, Ok, Result}
 use Rattle.loops.specs.Put.{put_from}
 use Rattle.kinds.specs.Limits.{most_stops, most_runs, run_numbers, runs_room, codes_room, most_text}
-use Rattle.kinds.specs.Refusals.{refusal, first_line, line_shape, over_limit, room_short}
+use Rattle.kinds.specs.Refusals.{refusal}
 use Rattle.kinds.specs.Kinds.{GoodRun}
 use Rattle.kinds.specs.declared.Code.{Code}
 use Rattle.kinds.specs.declared.Run.{Run}
@@ -10,10 +11,12 @@ use Rattle.words.specs.Bytes.{bytes}
 use Rattle.words.specs.Words.{lf, seek, begins_b, is_code}
 use Rattle.lookup.specs.Lookup.{code_start, code_length, has_code, put_code, Placed}
 use Rattle.lines.specs.Lines.{line_of}
+use Rattle.kinds.specs.declared.Reason.{Reason}
 use Rattle.lines.specs.declared.Line.{Line}
 use Rattle.lines.specs.declared.Line.TheVariants as line
-use Rattle.reader.specs.declared.ReadAnswer.{ReadAnswer}
-use Rattle.reader.specs.declared.ReadAnswer.TheVariants.{Read, No}
+use Rattle.kinds.specs.declared.Reason.TheVariants as reason
+use Rattle.reader.specs.declared.Counts.{Counts}
+use Rattle.kinds.specs.declared.Refusal.{Refusal}
 
 -- What was read so far: the number of the line to come, the stops, the runs, and the two lists that are filled, each as long as its room.
 pub record Sofar : Type 0 where
@@ -23,10 +26,10 @@ pub record Sofar : Type 0 where
   pub codes : List ℕ
   pub numbers : List ℕ
 
--- a text was read whole, or refused with a number and a place
+-- a text was read whole, or refused for a reason and at a place
 pub data ReadOutcome : Type 0 where
   whole : Sofar → ReadOutcome
-  bad : ℕ → ℕ → ReadOutcome
+  bad : Reason → ℕ → ReadOutcome
 
 -- "FROM TO DEP ARR TRIP": the numbers of a run, and these put in as run k
 abbrev pub numbers_of : Run → List ℕ
@@ -46,11 +49,11 @@ one_run_more b r =
     record { line = b.line + 1; stops = b.stops; runs = b.runs + 1; codes = b.codes; numbers = put_run b.numbers b.runs r }
 
 -- What a line leads to; its LF stands at e, and go reads on. "bytes after "end" are refusal 2, at the line where they are met".
-abbrev pub next : (ℕ → Sofar → ReadOutcome) → List ℕ → ℕ → Sofar → Line → ReadOutcome
-next go s e b (line.Stop c) = go (e + 1) (one_stop_more b c)
-next go s e b (line.Run r) = go (e + 1) (one_run_more b r)
-next go s e b line.End = cond (ltb (e + 1) (length s)) (bad line_shape (b.line + 1)) (whole b)
-next go s e b (line.Bad n) = bad n b.line
+abbrev pub next : (ℕ → Sofar → ReadOutcome) → List ℕ → ℕ → Sofar → Result Line Reason → ReadOutcome
+next go s e b (Ok (line.Stop c)) = go (e + 1) (one_stop_more b c)
+next go s e b (Ok (line.Run r)) = go (e + 1) (one_run_more b r)
+next go s e b (Ok line.End) = cond (ltb (e + 1) (length s)) (bad reason.LineShape (b.line + 1)) (whole b)
+next go s e b (Err n) = bad n b.line
 
 -- the line that begins at a ends where its LF stands, or where the text does
 abbrev pub line_end : List ℕ → ℕ → ℕ
@@ -60,12 +63,12 @@ line_end s a = seek lf s a (length s)
 -- line after the last": there a line of no bytes has no LF.
 abbrev pub read_line : (ℕ → Sofar → ReadOutcome) → List ℕ → ℕ → Sofar → ReadOutcome
 read_line go s a b =
-    cond (leb (length s) (line_end s a)) (bad line_shape b.line)
+    cond (leb (length s) (line_end s a)) (bad reason.LineShape b.line)
     (next go s (line_end s a) b (line_of s b.codes b.stops b.runs a (line_end s a)))
 
 -- The lines from a on. f is at least the number of bytes that are left (each line takes one or more), so at zero none is.
 unfoldable pub read_from : ℕ → List ℕ → ℕ → Sofar → ReadOutcome
-read_from zero s a b = bad line_shape b.line
+read_from zero s a b = bad reason.LineShape b.line
 read_from (suc f) s a b = read_line (read_from f s) s a b
 
 -- the first line, with its LF
@@ -79,15 +82,15 @@ start runs codes = record { line = 2; stops = 0; runs = 0; codes = replicate cod
 -- The text's meaning, read into rooms of these lengths. "Reader: 17, 8 for text length, then by line"; "Line 1 has only refusal 1".
 unfoldable pub read_text : List ℕ → ℕ → ℕ → ReadOutcome
 read_text s runs codes =
-    cond (ltb runs runs_room) (bad room_short 0)
-    (cond (ltb codes codes_room) (bad room_short 0)
-    (cond (ltb most_text (length s)) (bad over_limit 0)
-    (cond (begins_b s 0 (length s) first_word) (read_from (length s) s (length first_word) (start runs codes)) (bad first_line 1))))
+    cond (ltb runs runs_room) (bad reason.RoomShort 0)
+    (cond (ltb codes codes_room) (bad reason.RoomShort 0)
+    (cond (ltb most_text (length s)) (bad reason.OverLimit 0)
+    (cond (begins_b s 0 (length s) first_word) (read_from (length s) s (length first_word) (start runs codes)) (bad reason.FirstLine 1))))
 
 -- the answer, and what each room holds in the end: "A refusal carries number and place only .., and writable buffers are all zero."
-abbrev pub answer_of : ReadOutcome → ReadAnswer
-answer_of (whole b) = Read (record { stops = b.stops; runs = b.runs })
-answer_of (bad n p) = No (refusal n p)
+abbrev pub answer_of : ReadOutcome → Result Counts Refusal
+answer_of (whole b) = Ok (record { stops = b.stops; runs = b.runs })
+answer_of (bad n p) = Err (refusal n p)
 
 abbrev pub runs_of : ReadOutcome → ℕ → List ℕ
 runs_of (whole b) room = b.numbers

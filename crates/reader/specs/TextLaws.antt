@@ -1,7 +1,7 @@
 -- What holds of every text that was read whole: its numbers are good numbers, its codes are codes and no two are one, and the rest of each room is zero.
 use Prim.Native.Nat.{ℕ, zero, suc, ◌+◌, ◌*◌, ◌≤◌, ◌<◌}
 use Rattle.std.proofs.Math.Path.{◌≡◌}
-use Rattle.std.specs.Prelude.{refl, List, [], ◌∷◌, true, false, length, replicate, ltb, leb}
+use Rattle.std.specs.Prelude.{refl, List, [], ◌∷◌, true, false, length, replicate, ltb, leb, Ok, Result, Err}
 use Rattle.std.proofs.Common.{subst, ◌∙◌, arith, add-zero, lt-ltb, le-ltb, ltb-false, leb-false}
 use Rattle.std.proofs.Math.Decide.{ℕ_discrete}
 use Rattle.std.proofs.Math.ListN.{get_or}
@@ -9,7 +9,6 @@ use Rattle.std.proofs.lemmas.List.{length-replicate}
 use Rattle.loops.specs.ChainLaws.{past, stays}
 use Rattle.loops.specs.PutLaws.{put_length, put_before, put_after, put_at}
 use Rattle.kinds.specs.Limits.{most_text, run_numbers, runs_room, codes_room}
-use Rattle.kinds.specs.Refusals.{over_limit}
 use Rattle.kinds.specs.Kinds.{GoodRun}
 use Rattle.kinds.specs.declared.Code.{Code}
 use Rattle.kinds.specs.declared.Run.{Run}
@@ -20,13 +19,14 @@ use Rattle.lookup.specs.LookupLaws.{named_none, has_kept, code_length_lem, each_
 use Rattle.lines.specs.Lines.{line_of}
 use Rattle.lines.specs.Fine.{FineStop, FineRun, FineLine}
 use Rattle.lines.specs.LinesLaws.{line_fine}
+use Rattle.kinds.specs.declared.Reason.{Reason}
 use Rattle.lines.specs.declared.Line.{Line}
 use Rattle.lines.specs.declared.Line.TheVariants as kind
 use Rattle.reader.specs.declared.Counts.{Counts}
-use Rattle.reader.specs.declared.ReadAnswer.TheVariants.{Read}
 use Rattle.reader.specs.Text.{Sofar, ReadOutcome, whole, bad, numbers_of, put_run, one_stop_more, one_run_more, next}
 use Rattle.reader.specs.Text.{line_end, read_from, first_word, start, read_text, answer_of, runs_of, codes_of, number_of_run, GoodAt, GoodRead}
 use Rattle.reader.specs.Reading.{GoodSofar}
+use Rattle.kinds.specs.declared.Reason.TheVariants as reason
 
 module _ (l : List ℕ) (k : ℕ) (r : Run) where
   pub run_length : length (put_run l k r) ≡ length l
@@ -126,30 +126,31 @@ module _ {s : List ℕ} {roomR roomC stops runs : ℕ} {numbers codes : List ℕ
 
 -- what one line leads to, and then all of them
 module _ (s : List ℕ) (roomR roomC : ℕ) (roomy : runs_room ≤ roomR) (roomy-codes : codes_room ≤ roomC) where
-  next_kept : (go : ℕ → Sofar → ReadOutcome) (e : ℕ) (b w : Sofar) (l : Line) → e ≤ length s → GoodSofar s roomR roomC b →
+  next_kept : (go : ℕ → Sofar → ReadOutcome) (e : ℕ) (b w : Sofar) (l : Result Line Reason) → e ≤ length s → GoodSofar s roomR roomC b →
       FineLine s b.codes b.stops b.runs e l →
       ((a : ℕ) (c : Sofar) → a ≤ length s → GoodSofar s roomR roomC c → go a c ≡ whole w → GoodSofar s roomR roomC w × (0 < w.stops)) →
       e < length s → next go s e b l ≡ whole w → GoodSofar s roomR roomC w × (0 < w.stops)
-  next_kept go e b w (kind.Stop c) h k f rec lt q = rec (e + 1) (one_stop_more b c) (omega arith) (kept_stop k roomy-codes c e h f.0 f.1) q
-  next_kept go e b w (kind.Run r) h k f rec lt q = rec (e + 1) (one_run_more b r) (omega arith) (kept_run k roomy r f) q
-  next_kept go e b w kind.End h k f rec lt q =
-      let z = past (ltb (e + 1) (length s)) q (λ x. let y : ◌≡◌ {A = ℕ} 0 1 = cc in omega arith) in
+  next_kept go e b w (Ok (kind.Stop c)) h k f rec lt q = rec (e + 1) (one_stop_more b c) (omega arith) (kept_stop k roomy-codes c e h f.0 f.1) q
+  next_kept go e b w (Ok (kind.Run r)) h k f rec lt q = rec (e + 1) (one_run_more b r) (omega arith) (kept_run k roomy r f) q
+  next_kept go e b w (Ok kind.End) h k f rec lt q =
+      let z = past (ltb (e + 1) (length s)) q (λ x. cc) in
       let same : b ≡ w = let g = z.1 in cc in
       subst (λ (x : Sofar). GoodSofar s roomR roomC x × (0 < x.stops)) same (k, f)
-  next_kept go e b w (kind.Bad n) h k f rec lt q = absurd (let y : ◌≡◌ {A = ℕ} 0 1 = cc in omega arith)
+  next_kept go e b w (Err n) h k f rec lt q = cc
 
   from_kept : (f a : ℕ) (b w : Sofar) → a ≤ length s → GoodSofar s roomR roomC b → read_from f s a b ≡ whole w → GoodSofar s roomR roomC w × (0 < w.stops)
   unfolding read_from
-  from_kept zero a b w h k q = absurd (let y : ◌≡◌ {A = ℕ} 0 1 = cc in omega arith)
+  from_kept zero a b w h k q = cc
   from_kept (suc f) a b w h k q =
       let e : ℕ = line_end s a in
-      let z = past (leb (length s) e) q (λ x. let y : ◌≡◌ {A = ℕ} 0 1 = cc in omega arith) in
+      let z = past (leb (length s) e) q (λ x. cc) in
       next_kept (read_from f s) e b w (line_of s b.codes b.stops b.runs a e) (seek_high lf s a (length s) h) k
       (line_fine s b.codes b.stops b.runs e a (seek_low lf s a (length s))) (λ a' c h' k' q'. from_kept f a' c w h' k' q')
       (leb-false (length s) e z.0) z.1
 
 -- a text that is too long is refused by 8, whatever it holds
-pub text_long : (s : List ℕ) (roomR roomC : ℕ) → runs_room ≤ roomR → codes_room ≤ roomC → most_text < length s → read_text s roomR roomC ≡ bad over_limit 0
+pub text_long : (s : List ℕ) (roomR roomC : ℕ) → runs_room ≤ roomR → codes_room ≤ roomC → most_text < length s →
+    read_text s roomR roomC ≡ bad reason.OverLimit 0
 unfolding read_text
 text_long s roomR roomC h l m = rw (le-ltb roomR runs_room h, le-ltb roomC codes_room l, lt-ltb most_text (length s) m)
 
@@ -159,10 +160,10 @@ text_begun : (s : List ℕ) (roomR roomC : ℕ) (w : Sofar) → read_text s room
     (read_from (length s) s (length first_word) (start roomR roomC) ≡ whole w)
 unfolding read_text
 text_begun s roomR roomC w q =
-    let z₁ = past (ltb roomR runs_room) q (λ x. let y : ◌≡◌ {A = ℕ} 0 1 = cc in omega arith) in
-    let z₂ = past (ltb roomC codes_room) z₁.1 (λ x. let y : ◌≡◌ {A = ℕ} 0 1 = cc in omega arith) in
-    let z₃ = past (ltb most_text (length s)) z₂.1 (λ x. let y : ◌≡◌ {A = ℕ} 0 1 = cc in omega arith) in
-    let z₄ = stays (begins_b s 0 (length s) first_word) z₃.1 (λ x. let y : ◌≡◌ {A = ℕ} 0 1 = cc in omega arith) in (
+    let z₁ = past (ltb roomR runs_room) q (λ x. cc) in
+    let z₂ = past (ltb roomC codes_room) z₁.1 (λ x. cc) in
+    let z₃ = past (ltb most_text (length s)) z₂.1 (λ x. cc) in
+    let z₄ = stays (begins_b s 0 (length s) first_word) z₃.1 (λ x. cc) in (
       ltb-false roomR runs_room z₁.0,
       ltb-false roomC codes_room z₂.0,
       ltb-false most_text (length s) z₃.0,
@@ -183,14 +184,14 @@ text_good s roomR roomC w q =
     from_kept s roomR roomC b.0 b.1 (length s) (length first_word) (start roomR roomC) w b.3 (kept_none s roomR roomC) b.4
 
 -- the same of the answer and of what the two rooms hold
-pub read_good : (s : List ℕ) (roomR roomC : ℕ) (k : Counts) → Read k ≡ answer_of (read_text s roomR roomC) →
+pub read_good : (s : List ℕ) (roomR roomC : ℕ) (k : Counts) → Ok k ≡ answer_of (read_text s roomR roomC) →
     GoodRead s roomR roomC k.stops k.runs (runs_of (read_text s roomR roomC) roomR) (codes_of (read_text s roomR roomC) roomC) × (0 < k.stops)
 read_good s roomR roomC k e = go (read_text s roomR roomC) refl e
   where
-    go : (o : ReadOutcome) → read_text s roomR roomC ≡ o → Read k ≡ answer_of o →
+    go : (o : ReadOutcome) → read_text s roomR roomC ≡ o → Ok k ≡ answer_of o →
         GoodRead s roomR roomC k.stops k.runs (runs_of o roomR) (codes_of o roomC) × (0 < k.stops)
     go (whole w) q f = let same : k ≡ record { stops = w.stops; runs = w.runs } = cc in rw same (text_good s roomR roomC w q)
-    go (bad n p) q f = absurd (let y : ◌≡◌ {A = ℕ} 0 1 = cc in omega arith)
+    go (bad n p) q f = cc
 
 -- each stop that was read has a code
 pub named_all : {s : List ℕ} {roomR roomC stops runs : ℕ} {numbers codes : List ℕ} → GoodRead s roomR roomC stops runs numbers codes →

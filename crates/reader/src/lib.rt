@@ -4,12 +4,13 @@
 ghost use Rattle.std.specs.Prelude.{◌≡◌, ◌+◌, ◌*◌, ◌≤◌, length};
 ghost use Rattle.loops.specs.Zero.{zeros};
 ghost use Rattle.kinds.specs.Limits.{run_numbers};
-ghost use Rattle.kinds.specs.Refusals.{refusal};
 ghost use Rattle.reader.specs.Text.{put_run, read_text, answer_of, runs_of, codes_of};
 ghost use Rattle.reader.specs.Reading.{lines_of, filled_for, Readable};
 
-use kinds::{Refusal, Run, Stop, Text};
+use kinds::{Reason, Refusal, Run, Stop, Text};
 use lines::Line;
+use lookup::Known;
+use words::Stretch;
 
 // How many stops and runs were read.
 #[derive(Clone, Copy)]
@@ -18,13 +19,8 @@ pub struct Counts {
     pub runs: u32,
 }
 
-#[derive(Clone, Copy)]
-pub enum ReadAnswer {
-    Read(Counts),
-    No(Refusal),
-}
-
 // The numbers of run k, put into the list.
+#[tactic(auto, unfolding(crate::specs::Text::put_run))]
 fn put_run(runs: &mut [u32], k: u32, run: Run)
     requires { run_numbers * k + run_numbers ≤ length runs.old }
     ensures { runs.new ≡ put_run runs.old k run }
@@ -37,20 +33,15 @@ fn put_run(runs: &mut [u32], k: u32, run: Run)
     runs[at + 4] = run.trip as u32;
 }
 
-fn refuse(number: u32, place: u32) -> ReadAnswer
-    ensures { result ≡ ReadAnswer.No (refusal number place) }
-{
-    ReadAnswer::No(Refusal::new(number, place))
-}
-
 // The lines after the first, into rooms that are zero. A refusal leaves what was written.
+#[tactic(auto, using(crate::specs::ReadingLaws::reading_turns))]
 fn read_lines(
     text: &[u8],
     from: usize,
     runs: &mut [u32],
     codes: &mut [u32],
     slots: &mut [u64],
-) -> ReadAnswer
+) -> Result<Counts, Refusal>
     requires { Readable text.now from runs.old codes.old slots.old }
     ensures value { result ≡ answer_of (lines_of text.now from (length runs.old) (length codes.old)) }
     ensures filled_for { filled_for (lines_of text.now from (length runs.old) (length codes.old))
@@ -60,87 +51,94 @@ fn read_lines(
     let mut line: u32 = 2;
     let mut stops: u32 = 0;
     let mut count: u32 = 0;
+    // Not a counted loop: how many lines there are shows as they are read.
     loop {
-        let end = words::seek(text, b'\n', at, text.len());
+        let rest = Stretch {
+            text,
+            from: at,
+            to: text.len(),
+        };
+        let end = rest.seek(b'\n');
         if text.len() <= end {
-            return refuse(Refusal::LINE_SHAPE, line);
+            return Err(Refusal::new(Reason::LineShape, line));
         }
-        let l = lines::line_at(text, codes, slots, stops, count, at, end);
-        match l {
-            Line::Stop(code) => {
-                lookup::enter(
-                    text,
-                    codes,
-                    slots,
-                    stops,
-                    code.start as usize,
-                    code.length as usize,
-                );
+        let known = Known { text, codes, stops };
+        let said = Stretch {
+            text,
+            from: at,
+            to: end,
+        };
+        // By match, not by `?`: here a refused line gets its place.
+        match lines::line_at(known, slots, count, said) {
+            Ok(Line::Stop(code)) => {
+                let start = code.start as usize;
+                let length = code.length as usize;
+                lookup::enter(text, codes, slots, stops, start, length);
                 stops += 1;
-                line += 1;
-                at = end + 1;
             }
-            Line::Run(run) => {
+            Ok(Line::Run(run)) => {
                 put_run(runs, count, run);
                 count += 1;
-                line += 1;
-                at = end + 1;
             }
-            Line::End => {
+            Ok(Line::End) => {
                 if end + 1 < text.len() {
-                    return refuse(Refusal::LINE_SHAPE, line + 1);
+                    return Err(Refusal::new(Reason::LineShape, line + 1));
                 }
-                return ReadAnswer::Read(Counts { stops, runs: count });
+                return Ok(Counts { stops, runs: count });
             }
-            Line::Bad(number) => {
-                return refuse(number, line);
-            }
+            Err(reason) => return Err(Refusal::new(reason, line)),
         }
+        line += 1;
+        at = end + 1;
     }
 }
 
 // The whole text, into rooms that are zero. A refusal leaves what was written.
-fn read_text(text: &[u8], runs: &mut [u32], codes: &mut [u32]) -> ReadAnswer
+#[tactic(auto, unfolding(crate::specs::Text::read_text, crate::specs::Reading::lines_of))]
+fn read_text(text: &[u8], runs: &mut [u32], codes: &mut [u32]) -> Result<Counts, Refusal>
     requires { (runs.old ≡ zeros runs.old) × (codes.old ≡ zeros codes.old) }
     ensures value { result ≡ answer_of (read_text text.now (length runs.old) (length codes.old)) }
     ensures filled_for { filled_for (read_text text.now (length runs.old) (length codes.old))
         runs.new codes.new }
 {
     if runs.len() < Run::ROOM {
-        return refuse(Refusal::ROOM_SHORT, 0);
+        return Err(Refusal::new(Reason::RoomShort, 0));
     }
     if codes.len() < Stop::CODES_ROOM {
-        return refuse(Refusal::ROOM_SHORT, 0);
+        return Err(Refusal::new(Reason::RoomShort, 0));
     }
     if Text::MOST < text.len() {
-        return refuse(Refusal::OVER_LIMIT, 0);
+        return Err(Refusal::new(Reason::OverLimit, 0));
     }
     let first = b"timetable 1\n";
-    if words::begins(text, 0, text.len(), first) {
+    let whole = Stretch {
+        text,
+        from: 0,
+        to: text.len(),
+    };
+    if whole.begins(first) {
         let mut slots = [0u64; lookup::SLOTS];
         return read_lines(text, first.len(), runs, codes, &mut slots);
     }
-    refuse(Refusal::FIRST_LINE, 1)
+    Err(Refusal::new(Reason::FirstLine, 1))
 }
 
 // The timetable text, read into the two rooms: five numbers a run, and start and length of each stop's code.
 // What is not written is zero, and after a refusal both rooms are.
-pub fn read(text: &[u8], runs: &mut [u32], codes: &mut [u32]) -> ReadAnswer
+#[tactic(auto, using(loops::specs::ZeroLaws::zeros_as, crate::specs::ReadingLaws::filled_whole, crate::specs::ReadingLaws::filled_refused))]
+pub fn read(text: &[u8], runs: &mut [u32], codes: &mut [u32]) -> Result<Counts, Refusal>
     ensures value { result ≡ answer_of (read_text text.now (length runs.old) (length codes.old)) }
     ensures runs_after { runs.new ≡
         runs_of (read_text text.now (length runs.old) (length codes.old)) (length runs.old) }
     ensures codes_after { codes.new ≡
         codes_of (read_text text.now (length runs.old) (length codes.old)) (length codes.old) }
 {
-    loops::zero_u32(runs);
-    loops::zero_u32(codes);
-    let a = read_text(text, runs, codes);
-    match a {
-        ReadAnswer::Read(counts) => ReadAnswer::Read(counts),
-        ReadAnswer::No(refused) => {
-            loops::zero_u32(runs);
-            loops::zero_u32(codes);
-            ReadAnswer::No(refused)
-        }
+    loops::zero(runs);
+    loops::zero(codes);
+    let answer = read_text(text, runs, codes);
+    if answer.is_err() {
+        loops::zero(runs);
+        loops::zero(codes);
     }
+    answer
 }

@@ -1,5 +1,5 @@
 -- The other lines that the programs for people print.
-use Rattle.std.specs.Prelude.{ℕ, List, [], ◌∷◌, ◌++◌, Bool, true, false}
+use Rattle.std.specs.Prelude.{ℕ, List, [], ◌∷◌, ◌++◌, Bool, true, false, None, Option, Some}
 use Prim.Native.String.{String}
 use Rattle.kinds.specs.Kinds.{CodeIn}
 use Rattle.kinds.specs.declared.Code.{Code}
@@ -7,38 +7,34 @@ use Rattle.words.specs.Bytes.{bytes}
 use Rattle.words.specs.Words.{space}
 use Rattle.printed.specs.Printed.{decimal, code_of}
 use Rattle.report.specs.Texts.{counted, named, saying}
-use Rattle.report.specs.declared.Change.{Change}
-use Rattle.report.specs.declared.Change.TheVariants.{Direct, At}
-use Rattle.report.specs.declared.Pivot.{Pivot}
-use Rattle.report.specs.declared.Pivot.TheVariants as pivot
 
 -- "accepted"
 unfoldable pub accepted_line : List ℕ
 accepted_line = saying (bytes "accepted" ∷ [])
 
 -- where one changes, if the label has a pivot
-abbrev pub change_of : List ℕ → Change → List ℕ
-change_of s Direct = []
-change_of s (At c) = named ", change at" s c
+abbrev pub change_of : List ℕ → Option Code → List ℕ
+change_of s None = []
+change_of s (Some c) = named ", change at" s c
 
 -- its code stands in the text
-abbrev pub ChangeIn : List ℕ → Change → Type 0
-ChangeIn s Direct = Unit
-ChangeIn s (At c) = CodeIn s c
+abbrev pub ChangeIn : List ℕ → Option Code → Type 0
+ChangeIn s None = Unit
+ChangeIn s (Some c) = CodeIn s c
 
 -- when a label leaves, and when it arrives
 abbrev pub times_words : ℕ → ℕ → List ℕ
 times_words dep arr = counted ", leaves" dep ++ counted ", arrives" arr
 
 -- "label 1: HUB to MOOR, leaves 505, arrives 560, change at QUAY-S"
-unfoldable pub label_line : List ℕ → ℕ → Code → Code → ℕ → ℕ → Change → List ℕ
+unfoldable pub label_line : List ℕ → ℕ → Code → Code → ℕ → ℕ → Option Code → List ℕ
 label_line s k from to dep arr change =
     saying (counted "label" k ∷ named ":" s from ∷ named " to" s to ∷ times_words dep arr ∷ change_of s change ∷ [])
 
 -- a label's pivot by its number, if it has one
-abbrev pub pivot_words : Pivot → List ℕ
-pivot_words pivot.No = bytes ", no pivot"
-pivot_words (pivot.At p) = counted ", pivot" p
+abbrev pub pivot_words : Option ℕ → List ℕ
+pivot_words None = bytes ", no pivot"
+pivot_words (Some p) = counted ", pivot" p
 
 -- in which of its owner's two sets a label stands
 abbrev pub set_words : Bool → String
@@ -46,7 +42,7 @@ set_words true = ": an out-label of stop"
 set_words false = ": an in-label of stop"
 
 -- "label 0: an out-label of stop 1, hub 9, leaves 480, arrives 500, no pivot": by its numbers, which where it is not good need not be stops and minutes
-unfoldable pub entry_line : ℕ → Bool → ℕ → ℕ → ℕ → ℕ → Pivot → List ℕ
+unfoldable pub entry_line : ℕ → Bool → ℕ → ℕ → ℕ → ℕ → Option ℕ → List ℕ
 entry_line k out owner hub dep arr p =
     saying (counted "label" k ∷ counted (set_words out) owner ∷ counted ", hub" hub ∷ times_words dep arr ∷ pivot_words p ∷ [])
 

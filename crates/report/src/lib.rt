@@ -14,8 +14,9 @@ ghost use Rattle.report.specs.Words.{words_of, most_words, line_place, place_wor
 ghost use Rattle.report.specs.Lines.{accepted_line, change_of, ChangeIn, times_words, label_line, set_words, pivot_words, entry_line};
 ghost use Rattle.report.specs.Lines.{minutes_and_trip, numbered_run, numbered_stop, written_line, more_line, report_room};
 
-use kinds::{Code, Refusal};
+use kinds::{Code, Reason, Refusal};
 use printed::{put_lf, put_number};
+use words::Stretch;
 
 // Room for any line.
 pub const LINE_ROOM: usize = 280;
@@ -25,20 +26,6 @@ pub fn line_room() -> usize
     ensures value_2 { result ≡ report_room }
 {
     LINE_ROOM
-}
-
-// Where one changes, if anywhere.
-#[derive(Clone, Copy)]
-pub enum Change {
-    Direct,
-    At(Code),
-}
-
-// A label's pivot by its number, if it has one.
-#[derive(Clone, Copy)]
-pub enum Pivot {
-    No,
-    At(u32),
 }
 
 // ---- Pieces.
@@ -78,14 +65,17 @@ fn line_from(s: &[u8], n: u32) -> usize
     ensures { LineFrom s.now n result }
 {
     let mut from = 0;
-    let mut k = 0;
-    while k < n {
-        let end = words::seek(s, b'\n', from, s.len());
+    for _ in 0..n {
+        let rest = Stretch {
+            text: s,
+            from,
+            to: s.len(),
+        };
+        let end = rest.seek(b'\n');
         if end == s.len() {
             return end;
         }
         from = end + 1;
-        k += 1;
     }
     from
 }
@@ -98,7 +88,12 @@ fn put_line(out: &mut [u8], at: usize, s: &[u8], n: u32) -> usize
     ensures upper_bound { result ≤ at + most_words }
 {
     let from = line_from(s, n);
-    let end = words::seek(s, b'\n', from, s.len());
+    let rest = Stretch {
+        text: s,
+        from,
+        to: s.len(),
+    };
+    let end = rest.seek(b'\n');
     printed::put_part(out, at, s, from, end - from)
 }
 
@@ -154,20 +149,15 @@ fn put_place(out: &mut [u8], at: usize, r: Refusal) -> usize
     ensures wrote { Wrote out.old at (place_words r) out.new result }
     ensures upper_bound { result ≤ at + 40 }
 {
-    if r.number <= Refusal::OVER_LIMIT {
-        return put_line_place(out, at, r.place);
+    match r.reason {
+        Reason::LabelBad | Reason::Unsupported => put_counted(out, at, b" at label", r.place),
+        Reason::Gap => {
+            let a = put_counted(out, at, b" at run", r.place);
+            put_counted(out, a, b", stop", r.stop)
+        }
+        reason if reason.number() <= Reason::OverLimit.number() => put_line_place(out, at, r.place),
+        _ => at,
     }
-    if r.number == Refusal::LABEL_BAD {
-        return put_counted(out, at, b" at label", r.place);
-    }
-    if r.number == Refusal::UNSUPPORTED {
-        return put_counted(out, at, b" at label", r.place);
-    }
-    if r.number == Refusal::GAP {
-        let a = put_counted(out, at, b" at run", r.place);
-        return put_counted(out, a, b", stop", r.stop);
-    }
-    at
 }
 
 // "refused NUMBER at PLACE: WORDS"
@@ -176,10 +166,10 @@ pub fn refusal_line(out: &mut [u8], at: usize, r: Refusal) -> usize
     ensures wrote { Wrote out.old at (refusal_line r) out.new result }
     ensures upper_bound { result ≤ at + report_room }
 {
-    let a = put_counted(out, at, b"refused", r.number);
+    let a = put_counted(out, at, b"refused", r.reason.number());
     let b = put_place(out, a, r);
     let c = put_text(out, b, b": ");
-    let d = put_words(out, c, r.number);
+    let d = put_words(out, c, r.reason.number());
     put_lf(out, d)
 }
 
@@ -195,15 +185,16 @@ pub fn accepted_line(out: &mut [u8], at: usize) -> usize
     put_lf(out, a)
 }
 
-fn put_change(out: &mut [u8], at: usize, text: &[u8], change: Change) -> usize
+// Where one changes; `None` is a label with no pivot, along which nobody changes.
+fn put_change(out: &mut [u8], at: usize, text: &[u8], change: Option<Code>) -> usize
     requires at_in_bounds { at + 80 ≤ length out.old }
     requires change_in { ChangeIn text.now change }
     ensures wrote { Wrote out.old at (change_of text.now change) out.new result }
     ensures upper_bound { result ≤ at + 80 }
 {
     match change {
-        Change::Direct => at,
-        Change::At(code) => put_named(out, at, b", change at", text, code),
+        None => at,
+        Some(code) => put_named(out, at, b", change at", text, code),
     }
 }
 
@@ -227,7 +218,7 @@ pub fn label_line(
     to: Code,
     dep: u32,
     arr: u32,
-    change: Change,
+    change: Option<Code>,
 ) -> usize
     requires report_room_in_bounds { at + report_room ≤ length out.old }
     requires code_in { CodeIn text.now from × CodeIn text.now to × ChangeIn text.now change }
@@ -254,14 +245,15 @@ fn put_set(out: &mut [u8], at: usize, outgoing: bool, owner: u32) -> usize
     put_counted(out, at, b": an in-label of stop", owner)
 }
 
-fn put_pivot(out: &mut [u8], at: usize, pivot: Pivot) -> usize
+// A label's pivot by its number; `None` is a label that has none.
+fn put_pivot(out: &mut [u8], at: usize, pivot: Option<u32>) -> usize
     requires { at + 20 ≤ length out.old }
     ensures wrote { Wrote out.old at (pivot_words pivot) out.new result }
     ensures upper_bound { result ≤ at + 20 }
 {
     match pivot {
-        Pivot::No => put_text(out, at, b", no pivot"),
-        Pivot::At(p) => put_counted(out, at, b", pivot", p),
+        None => put_text(out, at, b", no pivot"),
+        Some(p) => put_counted(out, at, b", pivot", p),
     }
 }
 
@@ -275,7 +267,7 @@ pub fn entry_line(
     hub: u32,
     dep: u32,
     arr: u32,
-    pivot: Pivot,
+    pivot: Option<u32>,
 ) -> usize
     requires { at + report_room ≤ length out.old }
     ensures wrote { Wrote out.old at (entry_line k outgoing owner hub dep arr pivot) out.new result }

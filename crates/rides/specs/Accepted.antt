@@ -1,7 +1,7 @@
 -- What an ask with rides says of the timetable, where the check accepts the tables.
-use Rattle.std.specs.Prelude.{ℕ, ◌-◌, ◌≤◌, ◌<◌, ◌≡◌, List, ◌++◌, length, replicate}
+use Rattle.std.specs.Prelude.{ℕ, ◌-◌, ◌≤◌, ◌<◌, ◌≡◌, List, ◌++◌, length, replicate, Err, Ok, Result}
 use Rattle.loops.specs.Zero.{zeros}
-use Rattle.kinds.specs.Refusals.{no_journey, room_short, refusal}
+use Rattle.kinds.specs.Refusals.{refusal}
 use Rattle.kinds.specs.declared.Refusal.{Refusal}
 use Rattle.journeys.specs.declared.Criterion.{Criterion}
 use Rattle.journeys.specs.Service.{Service}
@@ -12,8 +12,7 @@ use Rattle.journeys.specs.Rides.{Chosen}
 use Rattle.timetable.specs.Slots.{listed}
 use Rattle.asks.specs.declared.Asked.{Asked}
 use Rattle.rides.specs.declared.Listed.{Listed}
-use Rattle.rides.specs.declared.RidesAnswer.{RidesAnswer}
-use Rattle.rides.specs.declared.RidesAnswer.TheVariants.{At, No}
+use Rattle.kinds.specs.declared.Reason.TheVariants as reason
 
 -- the timetable's best journey u to v; what is listed is, run by run, such a journey, its count the number of rides listed, and the rest of
 -- the list is zero
@@ -26,9 +25,9 @@ pub record BestListed (S : Service) (u v : ℕ) (c : Criterion) (before after : 
   pub holds : after ≡ listed rides ++ replicate (length before - length rides) 0
 
 -- that, or 16, no journey fits and the list is all zero
-abbrev pub GetsRides : Service → ℕ → ℕ → Criterion → List ℕ → List ℕ → RidesAnswer → Type 0
-GetsRides S u v c before after (At j) = BestListed S u v c before after j
-GetsRides S u v c before after (No r) = (r ≡ refusal no_journey 0) × Nothing (Journey S u v) c × (after ≡ zeros before)
+abbrev pub GetsRides : Service → ℕ → ℕ → Criterion → List ℕ → List ℕ → Result Listed Refusal → Type 0
+GetsRides S u v c before after (Ok j) = BestListed S u v c before after j
+GetsRides S u v c before after (Err r) = (r ≡ refusal reason.NoJourney 0) × Nothing (Journey S u v) c × (after ≡ zeros before)
 
 -- whatever the list's length: of several journeys with the best pair the one that the tables choose is listed
 pub record TrulyListed (S : Service) (T : Tables) (q : Asked) (before after : List ℕ) (j : Listed) : Type 0 where
@@ -38,10 +37,10 @@ pub record TrulyListed (S : Service) (T : Tables) (q : Asked) (before after : Li
 -- a refusal is 16, and no journey fits; or 17, and the rides that would be listed, those the tables choose, are more than the list has room
 -- for. 18 is not given.
 pub data TrulyRefused (S : Service) (T : Tables) (q : Asked) (room : ℕ) (r : Refusal) : Type 0 where
-  without_journey : r ≡ refusal no_journey 0 → Nothing (Journey S q.from q.to) q.criterion → TrulyRefused S T q room r
-  short : r ≡ refusal room_short 0 → (d a : ℕ) → Best (Journey S q.from q.to) q.criterion d a →
+  without_journey : r ≡ refusal reason.NoJourney 0 → Nothing (Journey S q.from q.to) q.criterion → TrulyRefused S T q room r
+  short : r ≡ refusal reason.RoomShort 0 → (d a : ℕ) → Best (Journey S q.from q.to) q.criterion d a →
       (l : List ℕ) → Chosen S T q.from q.to d a l → room < length l → TrulyRefused S T q room r
 
-abbrev pub TrulyLists : Service → Tables → Asked → List ℕ → List ℕ → RidesAnswer → Type 0
-TrulyLists S T q before after (At j) = TrulyListed S T q before after j
-TrulyLists S T q before after (No r) = TrulyRefused S T q (length before) r × (after ≡ zeros before)
+abbrev pub TrulyLists : Service → Tables → Asked → List ℕ → List ℕ → Result Listed Refusal → Type 0
+TrulyLists S T q before after (Ok j) = TrulyListed S T q before after j
+TrulyLists S T q before after (Err r) = TrulyRefused S T q (length before) r × (after ≡ zeros before)

@@ -1,6 +1,6 @@
 -- Laws of the asks with rides, for the functions that answer them: what a good ask has, what is listed, and that no second answer and no
 -- second list meet the contract.
-use Rattle.std.specs.Prelude.{ℕ, ◌-◌, ◌≤◌, List, ◌++◌, length, replicate}
+use Rattle.std.specs.Prelude.{ℕ, ◌-◌, ◌≤◌, List, ◌++◌, length, replicate, Err, Ok, Result}
 use Rattle.std.proofs.Math.Path.{◌≡◌, refl, sym, subst}
 use Rattle.std.proofs.Common.{ap, subst₂, ◌∙◌, arith}
 use Rattle.loops.specs.Zero.{zeros}
@@ -16,8 +16,6 @@ use Rattle.journeys.specs.Rides.{Chosen}
 use Rattle.journeys.proofs.CriteriaLaws.{best_one, best_not_nothing}
 use Rattle.journeys.proofs.SketchLaws.{sketch_last}
 use Rattle.journeys.proofs.RidesLaws.{chosen_one, chosen_short}
-use Rattle.tables.specs.declared.TablesRead.{TablesRead}
-use Rattle.tables.specs.declared.TablesRead.TheVariants as tables
 use Rattle.tables.specs.File.{tables_of}
 use Rattle.tables.specs.Judged.{judged_tables}
 use Rattle.tables.specs.TablesLaws.{good_tables}
@@ -27,35 +25,31 @@ use Rattle.timetable.specs.Slots.{listed, service_of}
 use Rattle.timetable.proofs.SlotsLaws.{listed-length}
 use Rattle.asks.specs.declared.Wanted.{Wanted}
 use Rattle.asks.specs.declared.Asked.{Asked}
-use Rattle.asks.specs.declared.AskRead.{AskRead}
-use Rattle.asks.specs.declared.AskRead.TheVariants as ask
 use Rattle.asks.specs.Asks.{if_tables, ask_read}
 use Rattle.asks.proofs.AskLaws.{ask_good}
 use Rattle.both.specs.Both.{judged_both, work_room, BothGood}
 use Rattle.both.specs.BothLaws.{both_good, judged_both_lem}
 use Rattle.opening.specs.Opening as opening
 use Rattle.rides.specs.declared.Listed.{Listed}
-use Rattle.rides.specs.declared.RidesAnswer.{RidesAnswer}
-use Rattle.rides.specs.declared.RidesAnswer.TheVariants.{At, No}
 use Rattle.rides.specs.Asking.{Asking}
 use Rattle.rides.specs.Lists.{rides_asked, ListedAs, RefusedAs, without_journey, missing, short, Lists}
 
 -- ---- an ask that is not refused
 
 module _ (b : List ℕ) (given : Given) (runs : List ℕ) (lent from to : ℕ) (w : Wanted) where
-  pub asked_good : (q : Asked) → rides_asked b given runs lent from to w ≡ ask.Good q → (n : ℕ) → n ≡ given.stops → Asking b n given runs lent q
+  pub asked_good : (q : Asked) → rides_asked b given runs lent from to w ≡ Ok q → (n : ℕ) → n ≡ given.stops → Asking b n given runs lent q
   unfolding rides_asked
   asked_good q e n same = go (judged_both (judged_tables b) (judged_of given runs lent work_room) given.stops) (both_good b given runs lent) e
     where
-      go : (t : TablesRead) → ((m : ℕ) → t ≡ tables.Good m → BothGood b m given runs × (work_room ≤ lent)) →
-          if_tables t (λ m. ask_read m from to w) ≡ ask.Good q → Asking b n given runs lent q
-      go (tables.No r) f h = let z : ◌≡◌ {A = ℕ} 0 1 = cc in absurd (omega arith)
-      go (tables.Good m) f h =
+      go : (t : Result ℕ Refusal) → ((m : ℕ) → t ≡ Ok m → BothGood b m given runs × (work_room ≤ lent)) →
+          if_tables t (λ m. ask_read m from to w) ≡ Ok q → Asking b n given runs lent q
+      go (Err r) f h = let z : ◌≡◌ {A = ℕ} 0 1 = cc in absurd (omega arith)
+      go (Ok m) f h =
           let g = f m refl in
           subst (λ m. Asking b m given runs lent q) (g.0.same ∙ sym same) (record { both = g.0; room = g.1; good = ask_good m from to w q h })
 
   -- over good tables and good numbers, with the working room, an ask is judged by the stop count alone
-  pub rides_asked_of : judged_tables b ≡ tables.Good given.stops → GoodNumbers given runs → work_room ≤ lent →
+  pub rides_asked_of : judged_tables b ≡ Ok given.stops → GoodNumbers given runs → work_room ≤ lent →
       rides_asked b given runs lent from to w ≡ ask_read given.stops from to w
   unfolding rides_asked
   rides_asked_of e g h = rw (judged_both_lem b given runs lent e g h) refl
@@ -64,10 +58,10 @@ module _ (b : List ℕ) (given : Given) (runs : List ℕ) (lent from to : ℕ) (
 
 module _ (S : Service) (T : Tables) where
   -- only the length of the lent list counts
-  pub lists_lent : (k : AskRead) (before other after : List ℕ) (r : RidesAnswer) → length before ≡ length other →
+  pub lists_lent : (k : Result Asked Refusal) (before other after : List ℕ) (r : Result Listed Refusal) → length before ≡ length other →
       Lists S T k before after r → Lists S T k other after r
-  lists_lent (ask.No k) before other after r n x = (x.0, zeros_as before other x.1 (ap length x.1 ∙ length-zeros before ∙ n))
-  lists_lent (ask.Good q) before other after (At j) n x =
+  lists_lent (Err k) before other after r n x = (x.0, zeros_as before other x.1 (ap length x.1 ∙ length-zeros before ∙ n))
+  lists_lent (Ok q) before other after (Ok j) n x =
       record {
         best = x.best;
         rides = x.rides;
@@ -76,7 +70,7 @@ module _ (S : Service) (T : Tables) where
         fits = omega (arith, x.fits);
         holds = x.holds ∙ ap (λ (m : ℕ). listed x.rides ++ replicate (m - length x.rides) 0) n;
       }
-  lists_lent (ask.Good q) before other after (No r) n x =
+  lists_lent (Ok q) before other after (Err r) n x =
       (subst (λ (m : ℕ). RefusedAs S T q m r) n x.0, zeros_as before other x.1 (ap length x.1 ∙ length-zeros before ∙ n))
 
 module _ (S : Service) (T : Tables) (q : Asked) where
@@ -102,9 +96,9 @@ module _ (S : Service) (T : Tables) (q : Asked) where
   }
 
   -- the list was zeroed first
-  pub lists_over : (before zeroed after : List ℕ) (r : RidesAnswer) → zeroed ≡ zeros before →
-      Lists S T (ask.Good q) zeroed after r → Lists S T (ask.Good q) before after r
-  lists_over before zeroed after r e x = lists_lent S T (ask.Good q) zeroed before after r (ap length e ∙ length-zeros before) x
+  pub lists_over : (before zeroed after : List ℕ) (r : Result Listed Refusal) → zeroed ≡ zeros before →
+      Lists S T (Ok q) zeroed after r → Lists S T (Ok q) before after r
+  lists_over before zeroed after r e x = lists_lent S T (Ok q) zeroed before after r (ap length e ∙ length-zeros before) x
 
 -- ---- no second answer and no second list meet the contract
 
@@ -153,20 +147,20 @@ module _ (S : Service) (T : Tables) (q : Asked) (G : GoodTables T) where
       absurd (m l (subst₂ (λ d a. Chosen S T q.from q.to d a l) z.0 z.1 C))
   refused_one room r s (short e d a B l C lt) (short f d' a' B' m C' lt') = e ∙ sym f
 
-  good_one : (before m n : List ℕ) (x y : RidesAnswer) → Lists S T (ask.Good q) before m x → Lists S T (ask.Good q) before n y → (x ≡ y) × (m ≡ n)
-  good_one before m n (At j) (At k) f g = let s = listed_as_one before m n j k f g in (ap At s.0, s.1)
-  good_one before m n (At j) (No r) f g = absurd (not_both before m j r f g.0)
-  good_one before m n (No r) (At k) f g = absurd (not_both before n k r g f.0)
-  good_one before m n (No r) (No s) f g = (ap No (refused_one (length before) r s f.0 g.0), f.1 ∙ sym g.1)
+  good_one : (before m n : List ℕ) (x y : Result Listed Refusal) → Lists S T (Ok q) before m x → Lists S T (Ok q) before n y → (x ≡ y) × (m ≡ n)
+  good_one before m n (Ok j) (Ok k) f g = let s = listed_as_one before m n j k f g in (ap Ok s.0, s.1)
+  good_one before m n (Ok j) (Err r) f g = absurd (not_both before m j r f g.0)
+  good_one before m n (Err r) (Ok k) f g = absurd (not_both before n k r g f.0)
+  good_one before m n (Err r) (Err s) f g = (ap Err (refused_one (length before) r s f.0 g.0), f.1 ∙ sym g.1)
 
 -- the contract determines the answer and the list, whatever is asked
-pub lists_one : (b : List ℕ) (given : Given) (runs : List ℕ) (lent from to : ℕ) (w : Wanted) (before m n : List ℕ) (x y : RidesAnswer) →
+pub lists_one : (b : List ℕ) (given : Given) (runs : List ℕ) (lent from to : ℕ) (w : Wanted) (before m n : List ℕ) (x y : Result Listed Refusal) →
     Lists (service_of given runs) (tables_of b) (rides_asked b given runs lent from to w) before m x →
     Lists (service_of given runs) (tables_of b) (rides_asked b given runs lent from to w) before n y → (x ≡ y) × (m ≡ n)
 lists_one b given runs lent from to w before m n x y =
     go (rides_asked b given runs lent from to w) (λ q e. good_tables (asked_good b given runs lent from to w q e _ refl).both.file)
   where
-    go : (a : AskRead) → ((q : Asked) → a ≡ ask.Good q → GoodTables (tables_of b)) →
+    go : (a : Result Asked Refusal) → ((q : Asked) → a ≡ Ok q → GoodTables (tables_of b)) →
         Lists (service_of given runs) (tables_of b) a before m x → Lists (service_of given runs) (tables_of b) a before n y → (x ≡ y) × (m ≡ n)
-    go (ask.No r) good f g = (f.0 ∙ sym g.0, f.1 ∙ sym g.1)
-    go (ask.Good q) good f g = good_one (service_of given runs) (tables_of b) q (good q refl) before m n x y f g
+    go (Err r) good f g = (f.0 ∙ sym g.0, f.1 ∙ sym g.1)
+    go (Ok q) good f g = good_one (service_of given runs) (tables_of b) q (good q refl) before m n x y f g

@@ -7,17 +7,10 @@ ghost use Rattle.printed.specs.Printed.{longest_line};
 ghost use Rattle.journey_lines.specs.Steps.{Stands};
 ghost use Rattle.sending.specs.Sent.{SentFrom};
 
-use handing::{Failure, Handed, Written};
-use journey_lines::{Stage, Step};
+use handing::{Failure, Written};
+use journey_lines::Stage;
 
-// All lines were written; or a write failed, and nothing was written after it.
-#[derive(Drop)]
-pub enum Sent {
-    All(Written),
-    Cut(Failure),
-}
-
-// All lines from the stage `first` on.
+// All lines from the stage `first` on. `Err` tells of a write that failed: nothing is handed on after it.
 pub fn print(
     rt: &HostRuntime,
     input: &[u8],
@@ -27,31 +20,17 @@ pub fn print(
     first: Stage,
     list: &mut [u32],
     out: &mut [u8],
-) -> Sent
+) -> Result<Written, Failure>
     requires longest_line_in_bounds { longest_line ≤ length out.old }
     requires stands { Stands input.now runs.now codes.now tables.now list.old first }
     ensures { SentFrom input.now runs.now codes.now tables.now list.old first result }
 {
     let mut stage = first;
     let mut written = Written::none();
-    loop {
-        let step = journey_lines::next(input, runs, codes, tables, stage, list, out);
-        match step {
-            Step::Nothing => {
-                return Sent::All(written);
-            }
-            Step::Printed(n, after) => {
-                let handed = handing::hand(rt, written, out, n);
-                match handed {
-                    Handed::Failed(f) => {
-                        return Sent::Cut(f);
-                    }
-                    Handed::All(more) => {
-                        written = more;
-                        stage = after;
-                    }
-                }
-            }
-        }
+    // not a counted loop: it goes on while a line is to be printed
+    while let Some(line) = journey_lines::next(input, runs, codes, tables, stage, list, out) {
+        written = handing::hand(rt, written, out, line.bytes)?;
+        stage = line.after;
     }
+    Ok(written)
 }

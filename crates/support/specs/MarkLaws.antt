@@ -35,8 +35,8 @@ module _ (b : List ℕ) {k : ℕ} where
       (u ≡ x) × (v ≡ y) × (d ≡ e) × (a ≡ c)
   label_one (of_out x) (of_out y) = ((entry_only b x y).1, sym x.hub ∙ y.hub, sym x.dep ∙ y.dep, sym x.arr ∙ y.arr)
   label_one (of_in x) (of_in y) = (sym x.hub ∙ y.hub, (entry_only b x y).1, sym x.dep ∙ y.dep, sym x.arr ∙ y.arr)
-  label_one (of_out x) (of_in y) = let e = (entry_only b x y).0 in let z : ◌≡◌ {A = ℕ} 0 1 = cc in absurd (omega arith)
-  label_one (of_in x) (of_out y) = let e = (entry_only b x y).0 in let z : ◌≡◌ {A = ℕ} 0 1 = cc in absurd (omega arith)
+  label_one (of_out x) (of_in y) = let e = (entry_only b x y).0 in cc
+  label_one (of_in x) (of_out y) = let e = (entry_only b x y).0 in cc
 
 below : {b : List ℕ} {n k o h d a : ℕ} {p : Option ℕ} → GoodFile b n → (side : Side) → Entry (tables_of b) side k o h d a p → k < most_labels
 below {o = o} g side x = omega (arith, x.high, tables_within g side o (omega (arith, x.owner, good_stops g)), g.room.few_labels)

@@ -3,6 +3,7 @@ use Rattle.std.specs.Prelude.{ℕ, ◌*◌, ◌%◌, ◌≤◌, ◌<◌, ◌≡�
 use Rattle.std.proofs.Common.{ap, ◌∙◌, inl, inr, arith, eq-eqb, ne_eqb}
 use Rattle.std.proofs.Math.Option.{Option}
 use Rattle.std.proofs.Math.Decide.{ℕ_discrete}
+use Rattle.loops.specs.FailsLaws.{holds_start, fails_on}
 use Rattle.loops.specs.Tells.{Tells}
 use Rattle.loops.specs.TellsLaws.{tells_yes, tells_no, tells_as}
 use Rattle.kinds.specs.Limits.{no_pivot}
@@ -12,13 +13,14 @@ use Rattle.journeys.specs.Service.{Service}
 use Rattle.journeys.specs.Tables.{Side, outs, ins, Tables, Entry, of_out, of_in}
 use Rattle.journeys.specs.Check.{Halves, SupportedAt}
 use Rattle.tables.specs.File.{start_of, end_of, set_of, owner_of, label_at, pivot_of, tables_of}
-use Rattle.tables.specs.FileLaws.{set_only}
+use Rattle.tables.specs.FileLaws.{start_none, set_only, set_within}
 use Rattle.tables.specs.Good.{GoodFile}
 use Rattle.tables.specs.TablesLaws.{reads, tables_start, tables_end, room_entry, entry_label}
 use Rattle.label_sets.specs.declared.Span.{Span}
 use Rattle.label_sets.specs.declared.Meeting.{Meeting}
 use Rattle.label_sets.specs.Sets.{SpanIn, MeetAt}
 use Rattle.label_sets.specs.SetsLaws.{met_halves}
+use Rattle.label_sets.specs.StartsLaws.{end_read}
 use Rattle.support.specs.Spans.{span_of, SpanAt, SpanSupported}
 use Rattle.support.specs.Marks.{RideAmong}
 
@@ -83,6 +85,12 @@ module _ {b : List ℕ} {n : ℕ} (g : GoodFile b n) {set k : ℕ} (real : set <
         go (no e) =
             let x = entry_label g (own_entry ins (omega arith)) in
             rw (by_in e) (record { from_stop = omega (arith, x.low); to_stop = omega arith; pivot_stop = pivot_in x.pivoted })
+
+-- what a label read says of its set's number
+pub ruleset own_label = (set_within, span_label, span_in)
+
+-- how a set's first unsupported label is one of all
+pub ruleset by_set = (holds_start, start_none, fails_on, set_within, end_read)
 
 -- ---- support, with a pivot and without
 

@@ -6,6 +6,7 @@ use Rattle.std.proofs.Common.{sym, add-one, eq-or-lt_of_le, le-ltb, lt-ltb}
 use Rattle.std.proofs.Math.Logic.{⊎_elim}
 use native.Mathlib.Omega.{arith}
 use Rattle.std.proofs.Math.Decide.{dec_lt}
+use Rattle.loops.specs.FilledLaws.{filled_none, filled_more}
 use Rattle.kinds.specs.declared.Label.{Label}
 use Rattle.tables.specs.File.{stops_of, start_of, end_of, labels_of}
 use Rattle.tables.specs.Judged.{follows}
@@ -45,6 +46,9 @@ module _ (b : List ℕ) where
 -- and within the labels of the file
 pub set_within : {b : List ℕ} {n set : ℕ} → Contents b n → set < 2 * n → end_of b set ≤ labels_of b
 set_within {b} {n} {set} g lt = end_within b (2 * stops_of b) set (omega (arith, g.stops))
+
+-- what the loop that writes the starts goes by
+pub ruleset start_turns = (set_within, filled_none, filled_more)
 
 -- a label stands in one of the sets
 pub located : (b : List ℕ) (m k : ℕ) → k < start_of b m → (set : ℕ) × (set < m) × (start_of b set ≤ k) × (k < end_of b set)

@@ -1,5 +1,5 @@
 -- The turns of the loops that judge the labels.
-use Rattle.std.specs.Prelude.{ℕ, zero, suc, ◌+◌, ◌*◌, ◌-◌, ◌≤◌, ◌<◌, ◌≡◌, refl, List, Bool, true, false, length}
+use Rattle.std.specs.Prelude.{ℕ, zero, suc, ◌+◌, ◌*◌, ◌-◌, ◌≤◌, ◌<◌, ◌≡◌, refl, List, Bool, true, false, length, Err, Ok}
 use Rattle.std.proofs.Math.Path.{ap}
 use Rattle.std.proofs.Common.{sym, ◌∙◌, arith}
 use Rattle.std.proofs.Math.Option.{Option, none, some}
@@ -7,22 +7,33 @@ use borrow.Author.Tests.{le-leb, lt-leb, eq-eqb, ne_eqb}
 use Rattle.loops.specs.FirstOf.{first_of}
 use Rattle.loops.specs.FirstOfLaws.{first_of_none, first_of_more, first_of_here}
 use Rattle.kinds.specs.Limits.{most_labels}
-use Rattle.kinds.specs.Refusals.{tables_length, refusal}
+use Rattle.kinds.specs.Refusals.{refusal}
 use Rattle.kinds.specs.declared.Label.{Label}
-use Rattle.tables.specs.declared.LabelsRead.TheVariants.{AllGood, BadAt}
-use Rattle.tables.specs.declared.TablesRead.TheVariants.{No}
+use Rattle.kinds.specs.declared.Refusal.{Refusal}
 use Rattle.tables.specs.Format.{header_bytes, entry_bytes}
-use Rattle.tables.specs.Turns.{labels_read, last_of, GoodTo}
-use Rattle.tables.specs.File.{stops_of, owner_of, start_of, labels_of, place_of, label_at}
-use Rattle.tables.specs.Judged.{follows, good_label, bad_label, first_bad, unless_bad, judged_contents}
+use Rattle.tables.specs.Turns.{last_of, GoodTo}
+use Rattle.tables.specs.File.{stops_of, owner_of, count_of, start_of, labels_of, place_of, label_at}
+use Rattle.tables.specs.FileLaws.{set_within}
+use Rattle.tables.specs.Judged.{follows, good_label, bad_label, bad_in_set, first_bad, unless_bad, judged_contents}
+use Rattle.kinds.specs.declared.Reason.TheVariants as reason
 
-pub read_good : (o : Option ℕ) → labels_read o ≡ AllGood → o ≡ none
-read_good none e = refl
-read_good (some k) e = let z : ◌≡◌ {A = ℕ} 0 1 = cc in absurd (omega arith)
+module _ {A : Type 0} (x : A) where
+  pub read_good : (o : Option ℕ) (y : A) → unless_bad o x ≡ Ok y → o ≡ none
+  read_good none y e = refl
+  read_good (some k) y e = cc
 
-pub read_bad : (o : Option ℕ) (k : ℕ) → labels_read o ≡ BadAt k → o ≡ some k
-read_bad none k e = let z : ◌≡◌ {A = ℕ} 0 1 = cc in absurd (omega arith)
-read_bad (some m) k e = cc
+  pub read_bad : (o : Option ℕ) (r : Refusal) → unless_bad o x ≡ Err r → (k : ℕ) × (o ≡ some k) × (r ≡ refusal reason.LabelBad k)
+  read_bad none r e = cc
+  read_bad (some k) r e = (k, refl, cc)
+
+  -- a turn of the loop over the sets
+  module _ (b : List ℕ) (set : ℕ) where
+    pub sets_more : (y : A) → first_of (bad_in_set b) set ≡ none → unless_bad (bad_in_set b set) x ≡ Ok y → first_of (bad_in_set b) (set + 1) ≡ none
+    sets_more y clear e = first_of_more _ set clear (read_good _ y e)
+
+    pub bad_set : (r : Refusal) → set < 2 * stops_of b → first_of (bad_in_set b) set ≡ none → unless_bad (bad_in_set b set) x ≡ Err r →
+        unless_bad (first_bad b) x ≡ Err r
+    bad_set r lt clear e = let k = read_bad _ r e in ap (λ o. unless_bad o x) (first_of_here _ (2 * stops_of b) set lt clear k.1) ∙ ap Err (sym k.2)
 
 pub good_to_none : {b : List ℕ} {set h d a : ℕ} → GoodTo b set 0 h d a
 good_to_none =
@@ -59,19 +70,28 @@ module _ {b : List ℕ} {set i h d a n start : ℕ} {l : Label} {good : Bool} (p
   unfolding bad_label
   good_to_bad count lt e = first_of_here _ count i lt p.clear (rw (judged, e, es))
 
+  pub bad_here : {A : Type 0} (x : A) {r : Refusal} {count : ℕ} → count ≡ count_of b set → i < count → good ≡ false →
+      r ≡ refusal reason.LabelBad (start + i) → Err r ≡ unless_bad (bad_in_set b set) x
+  bad_here x {count = count} c lt e f = rw (← c, good_to_bad count lt e, f)
+
+-- what the loops over the labels and over the sets go by
+pub ruleset label_turns = (first_of_none, good_to_more, bad_here)
+
+pub ruleset set_turns = (set_within, first_of_none, sets_more, bad_set)
+
 -- the tests behind the header, one after the other
 module _ (b : List ℕ) where
-  pub cut_short : length b < header_bytes + entry_bytes * stops_of b → judged_contents b ≡ No (refusal tables_length 0)
+  pub cut_short : length b < header_bytes + entry_bytes * stops_of b → judged_contents b ≡ Err (refusal reason.TablesLength 0)
   unfolding judged_contents
   cut_short lt = rw (lt-leb _ _ lt)
 
   module _ (fits : header_bytes + entry_bytes * stops_of b ≤ length b) where
-    pub over_limit_lem : most_labels < labels_of b → judged_contents b ≡ No (refusal tables_length 0)
+    pub over_limit_lem : most_labels < labels_of b → judged_contents b ≡ Err (refusal reason.TablesLength 0)
     unfolding judged_contents
     over_limit_lem lt = rw (le-leb _ _ fits, lt-leb _ _ lt)
 
     module _ (few : labels_of b ≤ most_labels) where
-      pub length_differs : (length b ≡ place_of (stops_of b) (labels_of b) → ⊥) → judged_contents b ≡ No (refusal tables_length 0)
+      pub length_differs : (length b ≡ place_of (stops_of b) (labels_of b) → ⊥) → judged_contents b ≡ Err (refusal reason.TablesLength 0)
       unfolding judged_contents
       length_differs ne = rw (le-leb _ _ fits, le-leb _ _ few, ne_eqb _ _ ne)
 

@@ -1,18 +1,17 @@
 -- How the bytes of a tables file are judged: refusals 9, 10 and 11, or the stop count.
-use Rattle.std.specs.Prelude.{ℕ, ◌+◌, ◌*◌, ◌-◌, List, Bool, true, false, cond, length, get_or, ltb, leb, eqb}
+use Rattle.std.specs.Prelude as std
+use Rattle.std.specs.Prelude.{ℕ, ◌+◌, ◌*◌, ◌-◌, List, Bool, true, false, cond, length, get_or, ltb, leb, eqb, Err, None, Ok, Result, Some}
 use Rattle.std.proofs.Math.Option.{Option, none, some}
 use Rattle.loops.specs.Unless.{unless}
 use Rattle.loops.specs.FirstOf.{first_of}
 use Rattle.kinds.specs.Limits.{most_labels}
-use Rattle.kinds.specs.Refusals.{no_tables, tables_length, label_bad, refusal}
+use Rattle.kinds.specs.Refusals.{refusal}
 use Rattle.kinds.specs.Kinds.{is_stop_count, label_of}
 use Rattle.kinds.specs.declared.Label.{Label}
-use Rattle.kinds.specs.declared.LabelRead.{LabelRead}
-use Rattle.kinds.specs.declared.LabelRead.TheVariants as label
 use Rattle.tables.specs.Format.{format_mark, header_bytes, entry_bytes}
 use Rattle.tables.specs.File.{stops_of, owner_of, count_of, start_of, labels_of, place_of, label_at}
-use Rattle.tables.specs.declared.TablesRead.{TablesRead}
-use Rattle.tables.specs.declared.TablesRead.TheVariants.{Good, No}
+use Rattle.kinds.specs.declared.Reason.TheVariants as reason
+use Rattle.kinds.specs.declared.Refusal.{Refusal}
 
 -- "Within one set hubs never fall, and for one hub departures and arrivals both strictly rise": label l may come after label m
 unfoldable pub follows : Label → Label → Bool
@@ -21,9 +20,9 @@ follows m l =
     (cond (ltb m.hub l.hub) true
     (cond (ltb m.dep l.dep) (ltb m.arr l.arr) false))
 
-abbrev pub is_good : LabelRead → Bool
-is_good (label.Good l) = true
-is_good label.Bad = false
+abbrev pub is_good : std.Option Label → Bool
+is_good (Some l) = true
+is_good None = false
 
 -- label l, number i of its set, is good: by itself, and where it is not the first in how it follows the label m before it
 unfoldable pub good_label : ℕ → ℕ → ℕ → Label → Label → Bool
@@ -42,24 +41,24 @@ bad_in_set b set = first_of (bad_label b set) (count_of b set)
 abbrev pub first_bad : List ℕ → Option ℕ
 first_bad b = first_of (bad_in_set b) (2 * stops_of b)
 
--- the stop count, unless a label is bad
-abbrev pub unless_bad : Option ℕ → ℕ → TablesRead
-unless_bad none n = Good n
-unless_bad (some k) n = No (refusal label_bad k)
+-- x, unless a label is bad
+abbrev pub unless_bad : {A : Type 0} → Option ℕ → A → Result A Refusal
+unless_bad none x = Ok x
+unless_bad (some k) x = Err (refusal reason.LabelBad k)
 
 -- 10: "contents cut short, over 8,192 labels, or length differs"; 11: "label not good", and the first such label is the place
-unfoldable pub judged_contents : List ℕ → TablesRead
+unfoldable pub judged_contents : List ℕ → Result ℕ Refusal
 judged_contents b =
     let n = stops_of b in
-    unless (leb (header_bytes + entry_bytes * n) (length b)) (No (refusal tables_length 0))
-    (unless (leb (labels_of b) most_labels) (No (refusal tables_length 0))
-    (unless (eqb (length b) (place_of n (labels_of b))) (No (refusal tables_length 0))
+    unless (leb (header_bytes + entry_bytes * n) (length b)) (Err (refusal reason.TablesLength 0))
+    (unless (leb (labels_of b) most_labels) (Err (refusal reason.TablesLength 0))
+    (unless (eqb (length b) (place_of n (labels_of b))) (Err (refusal reason.TablesLength 0))
     (unless_bad (first_bad b) n)))
 
 -- 9: "shorter than 2 bytes, byte 0 not 1, or n = 0" (a byte is a stop count unless it is 0)
-unfoldable pub judged_tables : List ℕ → TablesRead
+unfoldable pub judged_tables : List ℕ → Result ℕ Refusal
 judged_tables b =
-    unless (leb header_bytes (length b)) (No (refusal no_tables 0))
-    (unless (eqb (get_or b 0 0) format_mark) (No (refusal no_tables 0))
-    (unless (is_stop_count (stops_of b)) (No (refusal no_tables 0))
+    unless (leb header_bytes (length b)) (Err (refusal reason.NoTables 0))
+    (unless (eqb (get_or b 0 0) format_mark) (Err (refusal reason.NoTables 0))
+    (unless (is_stop_count (stops_of b)) (Err (refusal reason.NoTables 0))
     (judged_contents b)))

@@ -1,6 +1,6 @@
 -- One file: good tables with the same labels are the same bytes.
 use Prim.Native.Nat.{ℕ, ◌+◌, ◌*◌, ◌-◌, ◌/◌, ◌%◌, ◌≤◌, ◌<◌}
-use Rattle.std.specs.Prelude.{◌≡◌, refl, List, ◌⊎◌, length, get_or}
+use Rattle.std.specs.Prelude.{◌≡◌, refl, List, ◌⊎◌, length, get_or, Ok}
 use Rattle.std.proofs.Common.{ap, sym, subst, subst₂, ◌∙◌, inl, inr, arith, ext_get_or, eq-eqb, ne_eqb}
 use Rattle.std.proofs.Math.Option.{Option}
 use Rattle.std.proofs.Math.Decide.{ℕ_discrete, dec_lt}
@@ -9,7 +9,6 @@ use Rattle.loops.specs.Rows.{Rises, Among}
 use Rattle.kinds.specs.Limits.{no_pivot}
 use Rattle.kinds.specs.declared.Label.{Label}
 use Rattle.journeys.specs.Tables.{Side, Entry}
-use Rattle.tables.specs.declared.TablesRead.TheVariants.{Good}
 use Rattle.tables.specs.Format.{header_bytes, entry_bytes, label_bytes, no_pivot_byte}
 use Rattle.tables.specs.File.{two_at, stops_of, set_of, count_of, start_of, labels_of, place_of, pivot_read, label_at, pivot_of, tables_of, AreBytes}
 use Rattle.tables.specs.Judged.{judged_tables}
@@ -171,7 +170,7 @@ module _ (b c : List ℕ) (ab : AreBytes b) (ac : AreBytes c) where
         go (no h₀) (no h₁) (no h₂) (no h₃) (no h₄) = at (place_of n k + 5) (omega arith) (pivot_byte_lem (place_of n k + 5) pivot_eq)
 
 -- two files that are judged good and have the same labels are the same bytes
-pub one_file : (b c : List ℕ) (n : ℕ) → AreBytes b → AreBytes c → judged_tables b ≡ Good n → judged_tables c ≡ Good n →
+pub one_file : (b c : List ℕ) (n : ℕ) → AreBytes b → AreBytes c → judged_tables b ≡ Ok n → judged_tables c ≡ Ok n →
     SameLabels (tables_of b) (tables_of c) → b ≡ c
 one_file b c n ab ac jb jc same = whole (judged_good b n jb) (judged_good c n jc)
   where

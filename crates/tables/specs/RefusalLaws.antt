@@ -1,17 +1,15 @@
 -- Tables are refused by 9, 10 or 11; and 11 names a label that there is, that is not good, and before which every label is good.
-use Rattle.std.specs.Prelude.{ℕ, ◌+◌, ◌*◌, ◌<◌, ◌≡◌, refl, List, length, get_or, leb, eqb}
-use Rattle.std.proofs.Common.{ap, sym, subst, ◌∙◌, arith, leb-true, eqb-true}
+use Rattle.std.specs.Prelude.{ℕ, ◌+◌, ◌*◌, ◌<◌, ◌≡◌, refl, List, length, get_or, leb, eqb, Err, Ok, Result}
+use Rattle.std.proofs.Common.{ap, subst, arith, leb-true, eqb-true}
 use Rattle.std.proofs.Math.Option.{Option, none, some}
 use Rattle.std.proofs.Math.Decide.{dec_lt}
 use Rattle.loops.specs.ChainLaws.{either, past, stays}
 use Rattle.loops.specs.FirstOfLaws.{first_of_clear, first_of_found}
 use Rattle.loops.specs.FirstOf.{FoundAt}
 use Rattle.kinds.specs.Limits.{most_labels}
-use Rattle.kinds.specs.Refusals.{no_tables, tables_length, label_bad, refusal}
+use Rattle.kinds.specs.Refusals.{number_of, refusal}
 use Rattle.kinds.specs.Kinds.{is_stop_count}
 use Rattle.kinds.specs.KindsLaws.{stop_count}
-use Rattle.tables.specs.declared.TablesRead.{TablesRead}
-use Rattle.tables.specs.declared.TablesRead.TheVariants.{Good, No}
 use Rattle.tables.specs.Format.{format_mark, header_bytes, entry_bytes}
 use Rattle.tables.specs.File.{stops_of, owner_of, count_of, start_of, labels_of, place_of}
 use Rattle.tables.specs.Judged.{good_label, bad_label, bad_in_set, first_bad, unless_bad, judged_contents, judged_tables}
@@ -19,13 +17,15 @@ use Rattle.tables.specs.FileLaws.{start_rises, start_more}
 use Rattle.tables.specs.Good.{Room}
 use Rattle.tables.specs.Refused.{BadFirst, TablesRefusal, IfRefused}
 use Rattle.tables.specs.GoodLaws.{entry_good, good_entry}
+use Rattle.kinds.specs.declared.Reason.TheVariants as reason
+use Rattle.kinds.specs.declared.Refusal.{Refusal}
 
 -- ---- which refusals
 
-refused_nine : TablesRefusal (refusal no_tables 0)
+refused_nine : TablesRefusal (refusal reason.NoTables 0)
 refused_nine = record { least = omega arith; most = omega arith; one_place = refl }
 
-refused_ten : TablesRefusal (refusal tables_length 0)
+refused_ten : TablesRefusal (refusal reason.TablesLength 0)
 refused_ten = record { least = omega arith; most = omega arith; one_place = refl }
 
 refused_bad : (o : Option ℕ) (n : ℕ) → IfRefused (unless_bad o n)
@@ -49,17 +49,17 @@ judged-refusal b =
 
 -- ---- the label that is not good
 
-number_told : TablesRead → ℕ
-number_told (Good n) = 0
-number_told (No r) = r.number
+number_told : Result ℕ Refusal → ℕ
+number_told (Ok n) = 0
+number_told (Err r) = number_of r.reason
 
-place_told : TablesRead → ℕ
-place_told (Good n) = 0
-place_told (No r) = r.place
+place_told : Result ℕ Refusal → ℕ
+place_told (Ok n) = 0
+place_told (Err r) = r.place
 
-by_bad : (o : Option ℕ) (n k : ℕ) → unless_bad o n ≡ No (refusal label_bad k) → o ≡ some k
+by_bad : (o : Option ℕ) (n k : ℕ) → unless_bad o n ≡ Err (refusal reason.LabelBad k) → o ≡ some k
 unfolding place_told
-by_bad none n k e = let z : ◌≡◌ {A = ℕ} 0 1 = cc in absurd (omega arith)
+by_bad none n k e = cc
 by_bad (some m) n k e = ap some (ap place_told e)
 
 -- the label that was found in a set
@@ -67,9 +67,9 @@ in_set : (b : List ℕ) (set k : ℕ) → FoundAt (bad_label b set) (count_of b 
     (i : ℕ) × (i < count_of b set) × (k ≡ start_of b set + i) × (bad_label b set i ≡ none → ⊥) × ((j : ℕ) → j < i → bad_label b set j ≡ none)
 unfolding bad_label
 in_set b set k f =
-    let z = past (good_label (stops_of b) (owner_of set) f.at _ _) f.has (λ x. let y : ◌≡◌ {A = ℕ} 0 1 = cc in omega arith) in
+    let z = past (good_label (stops_of b) (owner_of set) f.at _ _) f.has (λ x. cc) in
     let h = z.1 in
-    (f.at, f.below, cc, λ x. let g = sym x ∙ f.has in let y : ◌≡◌ {A = ℕ} 0 1 = cc in omega arith, f.clear)
+    (f.at, f.below, cc, λ x. cc, f.clear)
 
 bad_first : (b : List ℕ) (k : ℕ) → first_bad b ≡ some k → BadFirst b (stops_of b) k
 bad_first b k e = go (first_of_found (bad_in_set b) (2 * stops_of b) e)
@@ -96,7 +96,7 @@ bad_first b k e = go (first_of_found (bad_in_set b) (2 * stops_of b) e)
             let s : f.at ≡ t = omega arith in
             subst (λ (y : ℕ). bad_label b y j ≡ none) s (x.4 j (omega (arith, ap (start_of b) s, x.2)))
 
-pub judged_bad : (b : List ℕ) (k : ℕ) → judged_tables b ≡ No (refusal label_bad k) → Room b (stops_of b) × BadFirst b (stops_of b) k
+pub judged_bad : (b : List ℕ) (k : ℕ) → judged_tables b ≡ Err (refusal reason.LabelBad k) → Room b (stops_of b) × BadFirst b (stops_of b) k
 unfolding judged_tables judged_contents number_told
 judged_bad b k e =
     let z₁ = stays (leb header_bytes (length b)) e (λ x. let y = ap number_told x in omega arith) in

@@ -27,7 +27,7 @@ pivot_some p ne = rw (ne_eqb p no_pivot ne)
 
 pub pivot_is : (p w : ℕ) → pivot_of p ≡ some w → (p ≡ w) × (p ≡ no_pivot → ⊥)
 pivot_is p w e =
-    let z = past (eqb p no_pivot) e (λ x. let y : ◌≡◌ {A = ℕ} 0 1 = cc in omega arith) in
+    let z = past (eqb p no_pivot) e (λ x. cc) in
     let f = z.1 in
     (cc, eqb-false p no_pivot z.0)
 
@@ -39,8 +39,7 @@ pivot_one p q e = go (ℕ_discrete p no_pivot) (ℕ_discrete q no_pivot)
     go (yes h) (no k) =
         let x = pivot_none p h in
         let y = pivot_some q k in
-        let z : ◌≡◌ {A = ℕ} 0 1 = cc in
-        absurd (omega arith)
+        cc
     go (no h) d = sym (pivot_is q p (sym e ∙ pivot_some p h)).0
 
 -- ---- what is read

@@ -1,18 +1,11 @@
 -- What the inner functions of the judge say, in terms of Judged.antt.
 use Rattle.std.specs.Prelude.{ℕ, ◌+◌, ◌-◌, ◌<◌, ◌≡◌, List}
-use Rattle.std.proofs.Math.Option.{Option, none, some}
+use Rattle.std.proofs.Math.Option.{none}
 use Rattle.loops.specs.FirstOf.{first_of}
 use Rattle.kinds.specs.Limits.{no_pivot}
 use Rattle.kinds.specs.declared.Label.{Label}
 use Rattle.tables.specs.File.{start_of, label_at}
 use Rattle.tables.specs.Judged.{bad_label}
-use Rattle.tables.specs.declared.LabelsRead.{LabelsRead}
-use Rattle.tables.specs.declared.LabelsRead.TheVariants.{AllGood, BadAt}
-
--- what a loop over labels answers
-abbrev pub labels_read : Option ℕ → LabelsRead
-labels_read none = AllGood
-labels_read (some k) = BadAt k
 
 -- a label by that which the next one has to follow; its pivot does not count
 abbrev pub last_of : ℕ → ℕ → ℕ → Label

@@ -7,12 +7,12 @@ ghost use Rattle.kinds.specs.Limits.{most_stops, most_labels};
 ghost use Rattle.journeys.specs.Tables.{outs, ins};
 ghost use Rattle.tables.specs.Format.{header_bytes};
 ghost use Rattle.tables.specs.File.{two_at, stops_of, count_of, start_of, end_of, labels_of, place_of, file_room, pivot_read, label_at, tables_of, bounds_of};
-ghost use Rattle.tables.specs.Judged.{follows, good_label, bad_in_set, first_bad, judged_contents, judged_tables};
-ghost use Rattle.tables.specs.Turns.{labels_read, last_of};
+ghost use Rattle.tables.specs.Judged.{follows, good_label, bad_in_set, first_bad, unless_bad, judged_contents, judged_tables};
+ghost use Rattle.tables.specs.Turns.{last_of};
 ghost use Rattle.tables.specs.Write.{put_two, put_header, put_count, pivot_byte, put_label};
 ghost use Rattle.tables.specs.Good.{Contents, Room};
 
-use kinds::{Label, LabelRead, Refusal, Stop};
+use kinds::{Label, Reason, Refusal, Stop};
 
 // Format 1 of the file (specs/Format.antt).
 const MARK: u8 = 1;
@@ -28,13 +28,6 @@ const NO_PIVOT: u8 = 255;
 // Room for any file.
 pub const FILE_ROOM: usize = HEADER + ENTRY * Stop::MOST + LABEL * Label::MOST;
 
-// The labels judged one after the other: none is bad, or the first that is.
-#[derive(Clone, Copy)]
-enum LabelsRead {
-    AllGood,
-    BadAt(u32),
-}
-
 // The labels of a set are those from `start` up to, not including, `end`.
 #[derive(Clone, Copy)]
 pub struct Bounds {
@@ -42,11 +35,12 @@ pub struct Bounds {
     pub end: usize,
 }
 
-// The stop count of good tables, or a refusal.
+// The bytes of a file whose contents agree with its length, and how many stops it is for. Its labels need not be good.
 #[derive(Clone, Copy)]
-pub enum TablesRead {
-    Good(u16),
-    No(Refusal),
+pub struct File<'a> {
+    pub bytes: &'a [u8],
+    pub stops: u16,
+    ghost room: { Room bytes.now stops },
 }
 
 // Two bytes, low byte first.
@@ -54,16 +48,17 @@ fn two_at(bytes: &[u8], i: usize) -> u16
     requires { i + 1 < length bytes.now }
     ensures { result ≡ two_at bytes.now i }
 {
-    (bytes[i] as u16) + 256 * (bytes[i + 1] as u16)
+    u16::from_le_bytes([bytes[i], bytes[i + 1]])
 }
 
 fn pivot_read(x: u8) -> u16
     ensures { result ≡ pivot_read x }
 {
     if x == NO_PIVOT {
-        return Label::NO_PIVOT;
+        Label::NO_PIVOT
+    } else {
+        u16::from(x)
     }
-    x as u16
 }
 
 // How many stops a file is for, whether its tables are good or not.
@@ -71,7 +66,7 @@ pub fn stop_count(bytes: &[u8]) -> u16
     requires { header_bytes ≤ length bytes.now }
     ensures { result ≡ stops_of bytes.now }
 {
-    bytes[1] as u16
+    u16::from(bytes[1])
 }
 
 // How many bytes a file of n stops and so many labels has; label k begins where a file of k labels would end.
@@ -89,21 +84,6 @@ pub fn file_room() -> usize
     FILE_ROOM
 }
 
-// Label k.
-pub fn label_at(bytes: &[u8], n: u16, k: usize) -> Label
-    requires room { Room bytes.now n }
-    requires k_bound { k < labels_of bytes.now }
-    ensures { result ≡ label_at bytes.now k }
-{
-    let at = file_length(n, k);
-    Label {
-        hub: bytes[at] as u16,
-        dep: two_at(bytes, at + 1),
-        arr: two_at(bytes, at + 3),
-        pivot: pivot_read(bytes[at + 5]),
-    }
-}
-
 // How many labels a set has. (The sets are numbered: set 2s is the out-labels of stop s, set 2s + 1 its in-labels.)
 fn count_of(bytes: &[u8], set: usize) -> usize
     requires { header_bytes + 2 * set + 2 ≤ length bytes.now }
@@ -113,16 +93,15 @@ fn count_of(bytes: &[u8], set: usize) -> usize
 }
 
 // The number of a set's first label. The sum is kept wide: it can pass 33 million before the tables are judged.
+#[tactic(auto, unfolding(crate::specs::File::start_of))]
 fn start_of(bytes: &[u8], set: usize) -> usize
     requires set_bound { set ≤ 2 * most_stops }
     requires set_in_bounds { header_bytes + 2 * set ≤ length bytes.now }
     ensures { result ≡ start_of bytes.now set }
 {
     let mut start = 0;
-    let mut j = 0;
-    while j < set {
+    for j in 0..set {
         start += count_of(bytes, j);
-        j += 1;
     }
     start
 }
@@ -135,175 +114,157 @@ pub fn label_count(bytes: &[u8], n: u16) -> usize
     start_of(bytes, 2 * (n as usize))
 }
 
-fn bounds_of(bytes: &[u8], set: usize) -> Bounds
-    requires set_bound { set < 2 * most_stops }
-    requires set_in_bounds { header_bytes + 2 * set + 2 ≤ length bytes.now }
-    requires set_bound_2 { end_of bytes.now set ≤ most_labels }
-    ensures { result ≡ record { start = start_of bytes.now set; end = end_of bytes.now set } }
-{
-    let start = start_of(bytes, set);
-    Bounds {
-        start,
-        end: start + count_of(bytes, set),
-    }
-}
-
-// The out-labels of stop s.
-pub fn outs_of(bytes: &[u8], n: u16, s: u16) -> Bounds
-    requires room { Room bytes.now n }
-    requires s_lt_n { s < n }
-    ensures { result ≡ bounds_of (tables_of bytes.now) outs s }
-{
-    bounds_of(bytes, 2 * (s as usize))
-}
-
-// The in-labels of stop s.
-pub fn ins_of(bytes: &[u8], n: u16, s: u16) -> Bounds
-    requires room { Room bytes.now n }
-    requires s_lt_n { s < n }
-    ensures { result ≡ bounds_of (tables_of bytes.now) ins s }
-{
-    bounds_of(bytes, 2 * (s as usize) + 1)
-}
-
 // Whether a label may come after one with this hub, departure and arrival.
+#[tactic(auto, unfolding(crate::specs::Judged::follows))]
 fn may_follow(hub: u16, dep: u16, arr: u16, l: Label) -> bool
     ensures { result ≡ follows (last_of hub dep arr) l }
 {
-    if l.hub < hub {
-        return false;
-    }
-    if hub < l.hub {
-        return true;
-    }
-    if dep < l.dep {
-        return arr < l.arr;
-    }
-    false
+    hub < l.hub || (hub == l.hub && dep < l.dep && arr < l.arr)
 }
 
 // Whether label i of its set is good; the label before counts only where it is not the first.
+#[tactic(auto, unfolding(crate::specs::Judged::good_label))]
 fn good_label(n: u16, owner: u16, i: usize, hub: u16, dep: u16, arr: u16, l: Label) -> bool
     ensures { result ≡ good_label n owner i (last_of hub dep arr) l }
 {
-    let read = Label::new(n, owner, l.hub, l.dep, l.arr, l.pivot);
-    match read {
-        LabelRead::Bad => {
-            return false;
-        }
-        LabelRead::Good(_) => {}
+    if Label::new(n, owner, l.hub, l.dep, l.arr, l.pivot).is_none() {
+        return false;
     }
-    if i == 0 {
-        return true;
-    }
-    may_follow(hub, dep, arr, l)
+    i == 0 || may_follow(hub, dep, arr, l)
 }
 
-// The labels of one set, which begins at label `start`: the first that is not good.
-fn judge_set(bytes: &[u8], n: u16, set: usize, start: usize, count: usize) -> LabelsRead
-    requires room { Room bytes.now n }
-    requires set_bound { set < 2 * n }
-    requires start_value { start ≡ start_of bytes.now set }
-    requires count_value { count ≡ count_of bytes.now set }
-    requires count_bound { start + count ≤ labels_of bytes.now }
-    ensures { result ≡ labels_read (bad_in_set bytes.now set) }
-{
-    let owner = (set / 2) as u16;
-    let mut hub = 0;
-    let mut dep = 0;
-    let mut arr = 0;
-    let mut i = 0;
-    while i < count {
-        let l = label_at(bytes, n, start + i);
-        if !good_label(n, owner, i, hub, dep, arr, l) {
-            return LabelsRead::BadAt((start + i) as u32);
+impl<'a> File<'a> {
+    // Label k.
+    #[tactic(auto, unfolding(crate::specs::File::label_at))]
+    pub fn label_at(self, k: usize) -> Label
+        requires k_bound { k < labels_of self.bytes.now }
+        ensures { result ≡ label_at self.entry.bytes.now k }
+    {
+        let at = file_length(self.stops, k);
+        Label {
+            hub: u16::from(self.bytes[at]),
+            dep: two_at(self.bytes, at + 1),
+            arr: two_at(self.bytes, at + 3),
+            pivot: pivot_read(self.bytes[at + 5]),
         }
-        hub = l.hub;
-        dep = l.dep;
-        arr = l.arr;
-        i += 1;
     }
-    LabelsRead::AllGood
-}
 
-// All sets in their order.
-fn judge_sets(bytes: &[u8], n: u16) -> LabelsRead
-    requires { Room bytes.now n }
-    ensures { result ≡ labels_read (first_bad bytes.now) }
-{
-    let sets = 2 * (n as usize);
-    let mut start = 0;
-    let mut set = 0;
-    while set < sets {
-        let count = count_of(bytes, set);
-        let read = judge_set(bytes, n, set, start, count);
-        match read {
-            LabelsRead::BadAt(k) => {
-                return LabelsRead::BadAt(k);
+    #[tactic(auto, using(crate::specs::FileLaws::set_within))]
+    fn bounds_of(self, set: usize) -> Bounds
+        requires set_bound { set < 2 * self.stops }
+        ensures { result ≡ record { start = start_of self.entry.bytes.now set; end = end_of self.entry.bytes.now set } }
+    {
+        let start = start_of(self.bytes, set);
+        Bounds {
+            start,
+            end: start + count_of(self.bytes, set),
+        }
+    }
+
+    // The out-labels of stop s.
+    #[tactic(auto, unfolding(crate::specs::File::tables_of))]
+    pub fn outs_of(self, s: u16) -> Bounds
+        requires s_lt_n { s < self.stops }
+        ensures { result ≡ bounds_of (tables_of self.entry.bytes.now) outs s }
+    {
+        self.bounds_of(2 * (s as usize))
+    }
+
+    // The in-labels of stop s.
+    #[tactic(auto, unfolding(crate::specs::File::tables_of))]
+    pub fn ins_of(self, s: u16) -> Bounds
+        requires s_lt_n { s < self.stops }
+        ensures { result ≡ bounds_of (tables_of self.entry.bytes.now) ins s }
+    {
+        self.bounds_of(2 * (s as usize) + 1)
+    }
+
+    // The labels of one set, which begins at label `start`: 11, with the first that is not good.
+    #[tactic(auto, using(crate::specs::JudgeLaws::label_turns))]
+    fn judge_set(self, set: usize, start: usize, count: usize) -> Result<(), Refusal>
+        requires set_bound { set < 2 * self.stops }
+        requires start_value { start ≡ start_of self.bytes.now set }
+        requires count_value { count ≡ count_of self.bytes.now set }
+        requires count_bound { start + count ≤ labels_of self.bytes.now }
+        ensures { result ≡ unless_bad (bad_in_set self.entry.bytes.now set) tt }
+    {
+        let owner = (set / 2) as u16;
+        let mut hub = 0;
+        let mut dep = 0;
+        let mut arr = 0;
+        for i in 0..count {
+            let l = self.label_at(start + i);
+            if !good_label(self.stops, owner, i, hub, dep, arr, l) {
+                return Err(Refusal::new(Reason::LabelBad, (start + i) as u32));
             }
-            LabelsRead::AllGood => {}
+            hub = l.hub;
+            dep = l.dep;
+            arr = l.arr;
         }
-        start += count;
-        set += 1;
+        Ok(())
     }
-    LabelsRead::AllGood
+
+    // All sets in their order.
+    #[tactic(auto, using(crate::specs::JudgeLaws::set_turns), unfolding(crate::specs::File::start_of))]
+    fn judge_sets(self) -> Result<(), Refusal>
+        ensures { result ≡ unless_bad (first_bad self.entry.bytes.now) tt }
+    {
+        let mut start = 0;
+        for set in 0..2 * (self.stops as usize) {
+            let count = count_of(self.bytes, set);
+            self.judge_set(set, start, count)?;
+            start += count;
+        }
+        Ok(())
+    }
+
+    // The starts of all sets in their order, and behind them the number of labels: 2n + 1 numbers, for those who look many sets up.
+    #[tactic(auto, using(crate::specs::FileLaws::start_turns), unfolding(crate::specs::File::start_of))]
+    pub fn starts(self, room: &mut [u16])
+        requires n_in_bounds { 2 * self.stops + 1 ≤ length room.old }
+        ensures { room.new ≡ filled (start_of self.entry.bytes.now) (2 * self.entry.stops + 1) room.old }
+    {
+        let sets = 2 * (self.stops as usize);
+        let mut start = 0;
+        for set in 0..sets {
+            room[set] = start as u16;
+            start += count_of(self.bytes, set);
+        }
+        room[sets] = start as u16;
+    }
 }
 
 // Behind the header: 10 and 11 in this order, or the stop count.
-fn judge_contents(bytes: &[u8], n: u16) -> TablesRead
+#[tactic(auto, unfolding(crate::specs::Judged::judged_contents))]
+fn judge_contents(bytes: &[u8], n: u16) -> Result<u16, Refusal>
     requires bytes_value { stops_of bytes.now ≡ n }
     requires n_le_most_stops { n ≤ most_stops }
     ensures { result ≡ judged_contents bytes.now }
 {
     if bytes.len() < HEADER + ENTRY * (n as usize) {
-        return TablesRead::No(Refusal::new(Refusal::TABLES_LENGTH, 0));
+        return Err(Reason::TablesLength.into());
     }
     let labels = label_count(bytes, n);
-    if Label::MOST < labels {
-        return TablesRead::No(Refusal::new(Refusal::TABLES_LENGTH, 0));
+    if Label::MOST < labels || bytes.len() != file_length(n, labels) {
+        return Err(Reason::TablesLength.into());
     }
-    if bytes.len() != file_length(n, labels) {
-        return TablesRead::No(Refusal::new(Refusal::TABLES_LENGTH, 0));
-    }
-    let read = judge_sets(bytes, n);
-    match read {
-        LabelsRead::AllGood => TablesRead::Good(n),
-        LabelsRead::BadAt(k) => TablesRead::No(Refusal::new(Refusal::LABEL_BAD, k)),
-    }
+    File { bytes, stops: n }.judge_sets()?;
+    Ok(n)
 }
 
 // Bytes from anywhere: 9, 10 and 11 in this order, or the stop count.
-pub fn judge(bytes: &[u8]) -> TablesRead
+#[tactic(auto, unfolding(crate::specs::Judged::judged_tables))]
+pub fn judge(bytes: &[u8]) -> Result<u16, Refusal>
     ensures { result ≡ judged_tables bytes.now }
 {
-    if bytes.len() < HEADER {
-        return TablesRead::No(Refusal::new(Refusal::NO_TABLES, 0));
-    }
-    if bytes[0] != MARK {
-        return TablesRead::No(Refusal::new(Refusal::NO_TABLES, 0));
+    if bytes.len() < HEADER || bytes[0] != MARK {
+        return Err(Reason::NoTables.into());
     }
     let n = stop_count(bytes);
-    if !Stop::is_count(n as u32) {
-        return TablesRead::No(Refusal::new(Refusal::NO_TABLES, 0));
+    if !Stop::is_count(u32::from(n)) {
+        return Err(Reason::NoTables.into());
     }
     judge_contents(bytes, n)
-}
-
-// The starts of all sets in their order, and behind them the number of labels: 2n + 1 numbers, for those who look many sets up.
-pub fn starts(bytes: &[u8], n: u16, room: &mut [u16])
-    requires room { Room bytes.now n }
-    requires n_in_bounds { 2 * n + 1 ≤ length room.old }
-    ensures { room.new ≡ filled (start_of bytes.now) (2 * n + 1) room.old }
-{
-    let sets = 2 * (n as usize);
-    let mut start = 0;
-    let mut set = 0;
-    while set < sets {
-        room[set] = start as u16;
-        start += count_of(bytes, set);
-        set += 1;
-    }
-    room[sets] = start as u16;
 }
 
 // ---- Writing, for the builder: each of these leaves every other byte as it was (specs/WriteLaws.antt).
@@ -312,8 +273,9 @@ fn put_two(bytes: &mut [u8], i: usize, x: u16)
     requires { i + 1 < length bytes.old }
     ensures { bytes.new ≡ put_two bytes.old i x }
 {
-    bytes[i] = (x % 256) as u8;
-    bytes[i + 1] = (x / 256) as u8;
+    let [low, high] = x.to_le_bytes();
+    bytes[i] = low;
+    bytes[i + 1] = high;
 }
 
 // The bytes before the contents.
@@ -338,12 +300,14 @@ fn pivot_byte(p: u16) -> u8
     ensures { result ≡ pivot_byte p }
 {
     if p == Label::NO_PIVOT {
-        return NO_PIVOT;
+        NO_PIVOT
+    } else {
+        (p % 256) as u8
     }
-    (p % 256) as u8
 }
 
 // Label k of a file of n stops.
+#[tactic(auto, unfolding(crate::specs::Write::put_label))]
 pub fn write_label(bytes: &mut [u8], n: u16, k: usize, l: Label)
     requires k_lt_most_labels { k < most_labels }
     requires k_in_bounds { place_of n (k + 1) ≤ length bytes.old }

@@ -9,11 +9,9 @@ ghost use Rattle.journey_lines.specs.Steps.{Ready};
 ghost use Rattle.sending.specs.Sent.{SentFrom};
 ghost use Rattle.tables_ask.specs.Held.{held_room, AcceptedFor, first_turn};
 
-use desk::Admitted;
-use files::FileRead;
+use handing::{Failure, Written};
 use journey_lines::{Sizes, Stage, Turn};
-use kinds::{Minute, Refusal, Run, Stop, Text};
-use sending::Sent;
+use kinds::{Minute, Reason, Refusal, Run, Stop, Text};
 use timetable::Given;
 
 // Room for the text and, behind it, the asks; of each one byte more than there may be, which tells what is too long.
@@ -23,8 +21,8 @@ fn held_room() -> [u8; Text::MOST + 1 + (Text::INPUT_MOST + 1)]
     [0; Text::MOST + 1 + (Text::INPUT_MOST + 1)]
 }
 
-// The text.
-fn read_text(rt: &HostRuntime, held: &mut [u8]) -> FileRead
+// The text; `None` where it cannot be used, and it was told why.
+fn read_text(rt: &HostRuntime, held: &mut [u8]) -> Option<usize>
     requires { held_room ≤ length held.old }
     ensures { ReadWithin (most_text + 1) result }
 {
@@ -50,7 +48,7 @@ fn answer(
     codes: &[u32],
     tables: &[u8],
     sizes: Sizes,
-) -> Sent
+) -> Result<Written, Failure>
     requires ready { Ready input.now runs.now codes.now tables.now (replicate last_minute 0) sizes (first_turn sizes.text) }
     requires accepted_for { AcceptedFor input.now runs.now codes.now tables.now sizes }
     ensures { SentFrom input.now runs.now codes.now tables.now (replicate last_minute 0)
@@ -79,7 +77,7 @@ fn answer(
 fn refuse_asks(rt: &HostRuntime) {
     let mut out = [0u8; desk::TOLD_ROOM];
     let a = report::more_line(&mut out, 0, b"standard input", Text::INPUT_MOST as u32);
-    let b = report::refusal_line(&mut out, a, Refusal::new(Refusal::OVER_LIMIT, 0));
+    let b = report::refusal_line(&mut out, a, Refusal::new(Reason::OverLimit, 0));
     files::tell(rt, &out, b);
 }
 
@@ -99,34 +97,28 @@ fn serve(rt: &HostRuntime, held: &mut [u8], n: usize, tables: &[u8])
         &mut work,
         &mut out,
     );
-    match admitted {
-        Admitted::No(told) => {
+    let counts = match admitted {
+        Ok(counts) => counts,
+        Err(told) => {
             files::tell(rt, &out, told);
+            return;
         }
-        Admitted::Yes(counts) => {
-            let k = read_asks(rt, held, n);
-            if Text::INPUT_MOST < k {
-                refuse_asks(rt);
-                return;
-            }
-            let end = n + k;
-            answer(
-                rt,
-                &held[..end],
-                &runs,
-                &codes,
-                tables,
-                Sizes {
-                    given: Given {
-                        stops: counts.stops,
-                        runs: counts.runs,
-                    },
-                    text: n,
-                    tables: tables.len(),
-                },
-            );
-        }
+    };
+    let k = read_asks(rt, held, n);
+    if Text::INPUT_MOST < k {
+        refuse_asks(rt);
+        return;
     }
+    let end = n + k;
+    let sizes = Sizes {
+        given: Given {
+            stops: counts.stops,
+            runs: counts.runs,
+        },
+        text: n,
+        tables: tables.len(),
+    };
+    let _ = answer(rt, &held[..end], &runs, &codes, tables, sizes);
 }
 
 fn main(rt: HostRuntime) {
@@ -139,11 +131,11 @@ fn main(rt: HostRuntime) {
         return;
     }
     let mut held = held_room();
-    let FileRead::Read(n) = read_text(&rt, &mut held) else {
+    let Some(n) = read_text(&rt, &mut held) else {
         return;
     };
     let mut tables = desk::tables_room();
-    let FileRead::Read(m) = files::read_named(&rt, 2, tables::FILE_ROOM as u32, &mut tables) else {
+    let Some(m) = files::read_named(&rt, 2, tables::FILE_ROOM as u32, &mut tables) else {
         return;
     };
     serve(&rt, &mut held, n, &tables[..m]);

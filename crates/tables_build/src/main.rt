@@ -2,18 +2,13 @@
 
 // Builds the tables of a timetable and writes them to a file, and says what was written, or why nothing was. What is said of the build is fixed in
 // the crate `desk`.
-use desk::Made;
-use files::FileRead;
 use kinds::Text;
 
 // Whether a file's name is that of the timetable, letter by letter: the tables would take its place.
 fn is_timetable(rt: &HostRuntime, path: &[u8]) -> bool {
     let mut text = files::name_room();
     let n = files::arg(rt, 1, &mut text);
-    if n != path.len() {
-        return false;
-    }
-    words::same(path, 0, &text, 0, n)
+    path == &text[..n]
 }
 
 // The tables, as the file that the second word names.
@@ -38,19 +33,18 @@ fn main(rt: HostRuntime) {
         return;
     }
     let mut text = desk::text_room();
-    let FileRead::Read(n) = files::read_named(&rt, 1, Text::MOST as u32, &mut text) else {
+    let Some(n) = files::read_named(&rt, 1, Text::MOST as u32, &mut text) else {
         return;
     };
     let mut tables = desk::tables_room();
     let mut out = [0u8; desk::TOLD_ROOM];
-    let made = desk::built(&text[..n], &mut tables, &mut out);
-    match made {
-        Made::Tables(long, told) => {
-            if save(&rt, &tables[..long]) {
-                files::tell(&rt, &out, told);
+    match desk::built(&text[..n], &mut tables, &mut out) {
+        Ok(made) => {
+            if save(&rt, &tables[..made.tables]) {
+                files::tell(&rt, &out, made.told);
             }
         }
-        Made::No(told) => {
+        Err(told) => {
             files::tell(&rt, &out, told);
         }
     }

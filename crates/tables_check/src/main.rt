@@ -1,7 +1,6 @@
 #![tactic(auto)]
 
 // Checks a tables file against a timetable, and says that it is accepted, or why not. What is said is fixed in the crate `desk`.
-use files::FileRead;
 use kinds::Text;
 
 fn main(rt: HostRuntime) {
@@ -14,11 +13,11 @@ fn main(rt: HostRuntime) {
         return;
     }
     let mut text = desk::text_room();
-    let FileRead::Read(n) = files::read_named(&rt, 1, Text::MOST as u32, &mut text) else {
+    let Some(n) = files::read_named(&rt, 1, Text::MOST as u32, &mut text) else {
         return;
     };
     let mut tables = desk::tables_room();
-    let FileRead::Read(m) = files::read_named(&rt, 2, tables::FILE_ROOM as u32, &mut tables) else {
+    let Some(m) = files::read_named(&rt, 2, tables::FILE_ROOM as u32, &mut tables) else {
         return;
     };
     let mut out = [0u8; desk::TOLD_ROOM];

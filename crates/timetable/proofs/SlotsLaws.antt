@@ -1,12 +1,11 @@
 -- What the service of given numbers says, and what was read at a slot of it.
-use Rattle.std.specs.Prelude.{ℕ, zero, suc, ◌≤◌, ◌<◌, List, [], ◌∷◌, ◌++◌, Bool, true, false, cond, length, get_or}
+use Rattle.std.specs.Prelude.{ℕ, zero, suc, ◌≤◌, ◌<◌, List, [], ◌∷◌, ◌++◌, Bool, true, false, cond, length, get_or, None, Some}
 use Rattle.std.proofs.Math.Path.{◌≡◌, refl, sym, ap}
 use Rattle.std.proofs.Common.{◌∙◌}
 use native.Mathlib.Omega.{arith}
 use Rattle.journeys.specs.declared.Ride.{Ride}
 use Rattle.journeys.specs.Service.{Service, RideAt, GoodService}
 use Rattle.timetable.specs.declared.Given.{Given}
-use Rattle.timetable.specs.declared.SlotRead.TheVariants.{InForce, NotInForce}
 use Rattle.timetable.specs.Numbers.{run_at, GoodNumbers, GoodRunAt}
 use Rattle.timetable.proofs.NumbersLaws.{good_run_at}
 use Rattle.timetable.specs.Slots.{most_slots, slots_of, slot_run, listed, ride_of, service_of, slot_at, IsRide}
@@ -25,7 +24,7 @@ module _ (given : Given) (list : List ℕ) where
   service_ride i = refl
 
   -- every slot is in force, with the ride of its run
-  pub slot_is : (i : ℕ) → InForce (ride_of (run_at list (slot_run i))) ≡ slot_at (service_of given list) i
+  pub slot_is : (i : ℕ) → Some (ride_of (run_at list (slot_run i))) ≡ slot_at (service_of given list) i
   unfolding service_of slot_at
   slot_is i = refl
 
@@ -81,16 +80,16 @@ listed_one i = refl
 -- ---- what was read at a slot
 
 module _ (S : Service) (i : ℕ) where
-  slot_forced : {r : Ride} (f : Bool) → cond f (InForce (S.ride i)) NotInForce ≡ InForce r → (f ≡ true) × (S.ride i ≡ r)
+  slot_forced : {r : Ride} (f : Bool) → cond f (Some (S.ride i)) None ≡ Some r → (f ≡ true) × (S.ride i ≡ r)
   slot_forced true e = (refl, cc)
-  slot_forced false e = let z : ◌≡◌ {A = ℕ} 0 1 = cc in absurd (omega arith)
+  slot_forced false e = cc
 
-  slot_off : (f : Bool) → cond f (InForce (S.ride i)) NotInForce ≡ NotInForce → f ≡ false
-  slot_off true e = let z : ◌≡◌ {A = ℕ} 0 1 = cc in absurd (omega arith)
+  slot_off : (f : Bool) → cond f (Some (S.ride i)) None ≡ None → f ≡ false
+  slot_off true e = cc
   slot_off false e = refl
 
   -- a ride in force
-  slot_ride : {r : Ride} → i < S.slots → slot_at S i ≡ InForce r → RideAt S i r.from r.to r.dep r.arr
+  slot_ride : {r : Ride} → i < S.slots → slot_at S i ≡ Some r → RideAt S i r.from r.to r.dep r.arr
   unfolding slot_at
   slot_ride lt e =
       let z = slot_forced (S.in_force i) e in
@@ -105,11 +104,11 @@ module _ (S : Service) (i : ℕ) where
       }
 
   -- or none
-  slot_none : slot_at S i ≡ NotInForce → (u v d a : ℕ) → ¬ (RideAt S i u v d a)
+  slot_none : slot_at S i ≡ None → (u v d a : ℕ) → ¬ (RideAt S i u v d a)
   unfolding slot_at
   slot_none e u v d a x =
       let z = sym x.forced ∙ slot_off (S.in_force i) e in
-      let y : ◌≡◌ {A = ℕ} 0 1 = cc in omega arith
+      cc
 
 -- one slot has one ride: read as r, it is u to v at these minutes exactly if r is
 module _ {S : Service} {i : ℕ} {r : Ride} (R : RideAt S i r.from r.to r.dep r.arr) {u v d a : ℕ} where
@@ -135,13 +134,13 @@ module _ {S : Service} {i : ℕ} {r : Ride} (R : RideAt S i r.from r.to r.dep r.
 
 -- of good numbers: a ride that was read at a slot is in force there; where none was, none is
 module _ {given : Given} {list : List ℕ} (g : GoodNumbers given list) (i : ℕ) where
-  pub read_ride : {r : Ride} → i < slots_of given → slot_at (service_of given list) i ≡ InForce r →
+  pub read_ride : {r : Ride} → i < slots_of given → slot_at (service_of given list) i ≡ Some r →
       RideAt (service_of given list) i r.from r.to r.dep r.arr
   read_ride lt e = slot_ride (service_of given list) i (omega (arith, service_slots given list)) e
 
-  pub read_none : slot_at (service_of given list) i ≡ NotInForce → (u v d a : ℕ) → ¬ (RideAt (service_of given list) i u v d a)
+  pub read_none : slot_at (service_of given list) i ≡ None → (u v d a : ℕ) → ¬ (RideAt (service_of given list) i u v d a)
   read_none e = slot_none (service_of given list) i e
 
-  pub read_idle : slot_at (service_of given list) i ≡ NotInForce → (service_of given list).in_force i ≡ false
+  pub read_idle : slot_at (service_of given list) i ≡ None → (service_of given list).in_force i ≡ false
   unfolding slot_at
   read_idle e = slot_off (service_of given list) i ((service_of given list).in_force i) e

@@ -1,12 +1,10 @@
 -- The timetable in force, slot by slot: which run stands at a slot, and with which ride. All that reads rides reads them here.
-use Rattle.std.specs.Prelude.{ℕ, ◌≡◌, List, [], ◌∷◌, true, cond}
+use Rattle.std.specs.Prelude.{ℕ, ◌≡◌, List, [], ◌∷◌, true, cond, None, Option, Some}
 use Rattle.kinds.specs.Limits.{most_runs}
 use Rattle.kinds.specs.declared.Run.{Run}
 use Rattle.journeys.specs.declared.Ride.{Ride}
 use Rattle.journeys.specs.Service.{Service}
 use Rattle.timetable.specs.declared.Given.{Given}
-use Rattle.timetable.specs.declared.SlotRead.{SlotRead}
-use Rattle.timetable.specs.declared.SlotRead.TheVariants.{InForce, NotInForce}
 use Rattle.timetable.specs.Numbers.{run_at}
 
 -- a slot a run
@@ -40,8 +38,8 @@ service_of given list =
     }
 
 -- what stands at slot i of a service
-unfoldable pub slot_at : Service → ℕ → SlotRead
-slot_at S i = cond (S.in_force i) (InForce (S.ride i)) NotInForce
+unfoldable pub slot_at : Service → ℕ → Option Ride
+slot_at S i = cond (S.in_force i) (Some (S.ride i)) None
 
 -- "with its ends and minutes"
 pub record IsRide (r : Ride) (u v d a : ℕ) : Type 0 where

@@ -1,5 +1,5 @@
 -- What the comparisons tell, and the turns of the search for gaps.
-use Rattle.std.specs.Prelude.{ℕ, ◌+◌, ◌≤◌, ◌<◌, ◌≡◌, List, Bool, true, false, ◌≢◌, ◌↔◌, length, leb}
+use Rattle.std.specs.Prelude.{ℕ, ◌+◌, ◌≤◌, ◌<◌, ◌≡◌, List, Bool, true, false, ◌≢◌, ◌↔◌, length, leb, None, Option, Some}
 use Rattle.std.proofs.Common.{sym, subst, arith}
 use Rattle.loops.specs.FailsLaws.{holds_none, holds_more}
 use Rattle.loops.specs.Tells.{Tells}
@@ -19,8 +19,6 @@ use Rattle.label_sets.specs.Starts.{starts_room, Started}
 use Rattle.label_sets.specs.StartsLaws.{started_stops, started_few}
 use Rattle.both.specs.Both.{work_room, BothGood}
 use Rattle.support.specs.MarkLaws.{ride_ends}
-use Rattle.verdict.specs.declared.Gap.{Gap}
-use Rattle.verdict.specs.declared.Gap.TheVariants.{At, Nothing}
 use Rattle.verdict.specs.declared.Soonest.{Soonest}
 use Rattle.verdict.specs.Early.{Reached, Arrivals, Early}
 use Rattle.verdict.specs.EarlyLaws.{early_arrival, gap_here, gap_on}
@@ -140,9 +138,9 @@ module _ {S : Service} {b : List ℕ} {n : ℕ} {room : List ℕ} {r : Ride} {i 
 
 -- ---- what the search told
 
-module _ {S : Service} {T : Tables} {g : Gap} (x : GapIn S T g) where
-  pub told_gap : {i v : ℕ} → g ≡ At i v → FirstGap S T i v
+module _ {S : Service} {T : Tables} {g : Option (ℕ × ℕ)} (x : GapIn S T g) where
+  pub told_gap : {i v : ℕ} → g ≡ Some (i, v) → FirstGap S T i v
   told_gap e = subst (GapIn S T) e x
 
-  pub told_none : g ≡ Nothing → NoGaps S T
+  pub told_none : g ≡ None → NoGaps S T
   told_none e = subst (GapIn S T) e x

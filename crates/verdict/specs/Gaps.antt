@@ -1,5 +1,5 @@
 -- What the search for gaps answers, and how far it has come.
-use Rattle.std.specs.Prelude.{ℕ, ◌≤◌, ◌<◌, ◌≢◌, List, length}
+use Rattle.std.specs.Prelude.{ℕ, ◌≤◌, ◌<◌, ◌≢◌, List, length, None, Option, Some}
 use Rattle.loops.specs.Fails.{HoldsTo}
 use Rattle.kinds.specs.Limits.{last_minute}
 use Rattle.journeys.specs.declared.Ride.{Ride}
@@ -9,8 +9,6 @@ use Rattle.journeys.specs.Check.{NoGap, NoGapAt, NoGaps}
 use Rattle.tables.specs.File.{tables_of}
 use Rattle.label_sets.specs.Starts.{Started}
 use Rattle.both.specs.Both.{work_room}
-use Rattle.verdict.specs.declared.Gap.{Gap}
-use Rattle.verdict.specs.declared.Gap.TheVariants.{At, Nothing}
 use Rattle.verdict.specs.Early.{Reached}
 use Rattle.verdict.specs.Minutes.{near, far, both_room}
 
@@ -40,9 +38,9 @@ pub record FirstGap (S : Service) (T : Tables) (i v : ℕ) : Type 0 where
   pub runs_before : (j w : ℕ) → j < i → w < T.stops → NoGapAt S T j w
   pub stops_before : (w : ℕ) → w < v → NoGapAt S T i w
 
-abbrev pub GapIn : Service → Tables → Gap → Type 0
-GapIn S T (At i v) = FirstGap S T i v
-GapIn S T Nothing = NoGaps S T
+abbrev pub GapIn : Service → Tables → Option (ℕ × ℕ) → Type 0
+GapIn S T (Some (i, v)) = FirstGap S T i v
+GapIn S T None = NoGaps S T
 
 -- there is no gap at slot i and a stop below v
 abbrev pub ClearTo : Service → Tables → ℕ → ℕ → Type 0

@@ -1,17 +1,15 @@
 -- The check has one answer, and accepts exactly what is to be accepted; and what its steps say of its answer.
-use Rattle.std.specs.Prelude.{ℕ, ◌≤◌, ◌<◌, ◌≡◌, refl, ◌↔◌, List}
+use Rattle.std.specs.Prelude.{ℕ, ◌≤◌, ◌<◌, ◌≡◌, refl, ◌↔◌, List, Err, Ok, Result}
 use Rattle.std.proofs.Common.{sym, ◌∙◌, arith}
 use Rattle.std.proofs.Math.Path.{ap, subst}
 use Rattle.std.proofs.Math.Option.{Option}
 use Rattle.std.proofs.Math.Decide.{dec_lt}
 use Rattle.loops.specs.Fails.{FailsAt}
-use Rattle.kinds.specs.Refusals.{refusal, unsupported}
+use Rattle.kinds.specs.Refusals.{number_of, refusal}
 use Rattle.journeys.specs.Service.{Service}
 use Rattle.journeys.specs.Tables.{Tables, outs, ins, LabelAt, of_out, of_in}
 use Rattle.journeys.specs.Check as the
 use Rattle.journeys.specs.Check.{SupportedAt, AllSupported, NoGapAt, UnsupportedFirst, GapFirst}
-use Rattle.tables.specs.declared.TablesRead.{TablesRead}
-use Rattle.tables.specs.declared.TablesRead.TheVariants as tables
 use Rattle.tables.specs.File.{tables_of, labels_of}
 use Rattle.tables.specs.Judged.{judged_tables}
 use Rattle.tables.specs.Good.{GoodFile}
@@ -21,10 +19,10 @@ use Rattle.timetable.specs.Numbers.{judged_of}
 use Rattle.timetable.specs.Slots.{slot_run, service_of}
 use Rattle.both.specs.Both.{work_room, judged_both, BothGood}
 use Rattle.both.specs.BothLaws.{both_good}
-use Rattle.verdict.specs.declared.Verdict.{Verdict}
-use Rattle.verdict.specs.declared.Verdict.TheVariants.{Accepted, No}
 use Rattle.verdict.specs.Gaps.{FirstGap}
 use Rattle.verdict.specs.Verdict.{gap_refusal, CheckedAs, unsupported_at, gap_at, all_well, GapAtRun, Answered, Checked, AcceptedTables}
+use Rattle.kinds.specs.declared.Reason.TheVariants as reason
+use Rattle.kinds.specs.declared.Refusal.{Refusal}
 
 -- ---- one answer
 
@@ -49,81 +47,82 @@ module _ {S : Service} {T : Tables} where
   one_stop : {i v w : ℕ} → GapFirst S T i v → GapFirst S T i w → v ≡ w
   one_stop x y = first_same x.fault x.stops_before y.fault y.stops_before
 
-  pub checked_as_one : {r s : Verdict} → CheckedAs S T r → CheckedAs S T s → r ≡ s
-  checked_as_one (unsupported_at k x e) (unsupported_at j y f) = e ∙ ap (λ z. No (refusal unsupported z)) (one_label x y) ∙ sym f
+  pub checked_as_one : {r s : Result Unit Refusal} → CheckedAs S T r → CheckedAs S T s → r ≡ s
+  checked_as_one (unsupported_at k x e) (unsupported_at j y f) = e ∙ ap (λ z. Err (refusal reason.Unsupported z)) (one_label x y) ∙ sym f
   checked_as_one (unsupported_at k x e) (gap_at i v y f) = absurd (x.fault (y.supported k))
   checked_as_one (unsupported_at k x e) (all_well y f) = absurd (x.fault (y.supported k))
   checked_as_one (gap_at i v x e) (unsupported_at k y f) = absurd (y.fault (x.supported k))
   checked_as_one (gap_at i v x e) (gap_at j w y f) =
       let p = one_slot x y in
       let q = one_stop (subst (λ z. GapFirst S T z v) p x) y in
-      e ∙ ap (λ z. No (gap_refusal (slot_run z) v)) p ∙ ap (λ z. No (gap_refusal (slot_run j) z)) q ∙ sym f
+      e ∙ ap (λ z. Err (gap_refusal (slot_run z) v)) p ∙ ap (λ z. Err (gap_refusal (slot_run j) z)) q ∙ sym f
   checked_as_one (gap_at i v x e) (all_well y f) = absurd (x.fault (y.no_gaps i v x.stop))
   checked_as_one (all_well x e) (unsupported_at k y f) = absurd (y.fault (x.supported k))
   checked_as_one (all_well x e) (gap_at i v y f) = absurd (y.fault (x.no_gaps i v y.stop))
   checked_as_one (all_well x e) (all_well y f) = e ∙ sym f
 
-answered_one : (j : TablesRead) (S : Service) (T : Tables) {r s : Verdict} → Answered j S T r → Answered j S T s → r ≡ s
-answered_one (tables.No x) S T e f = e ∙ sym f
-answered_one (tables.Good n) S T x y = checked_as_one x y
+answered_one : (j : Result ℕ Refusal) (S : Service) (T : Tables) {r s : Result Unit Refusal} → Answered j S T r → Answered j S T s → r ≡ s
+answered_one (Err x) S T e f = e ∙ sym f
+answered_one (Ok n) S T x y = checked_as_one x y
 
 -- no second answer
-pub checked_one : (b : List ℕ) (given : Given) (list : List ℕ) (lent : ℕ) {r s : Verdict} → Checked b given list lent r → Checked b given list lent s → r ≡ s
+pub checked_one : (b : List ℕ) (given : Given) (list : List ℕ) (lent : ℕ) {r s : Result Unit Refusal} → Checked b given list lent r →
+    Checked b given list lent s → r ≡ s
 checked_one b given list lent x y =
     answered_one (judged_both (judged_tables b) (judged_of given list lent work_room) given.stops) (service_of given list) (tables_of b) x y
 
 -- ---- each answer is given exactly when its reason holds
 
-number_told : Verdict → ℕ
-number_told Accepted = 0
-number_told (No x) = x.number
+number_told : Result Unit Refusal → ℕ
+number_told (Ok tt) = 0
+number_told (Err x) = number_of x.reason
 
-place_told : Verdict → ℕ
-place_told Accepted = 0
-place_told (No x) = x.place
+place_told : Result Unit Refusal → ℕ
+place_told (Ok tt) = 0
+place_told (Err x) = x.place
 
-stop_told : Verdict → ℕ
-stop_told Accepted = 0
-stop_told (No x) = x.stop
+stop_told : Result Unit Refusal → ℕ
+stop_told (Ok tt) = 0
+stop_told (Err x) = x.stop
 
-module _ {S : Service} {T : Tables} {r : Verdict} (o : CheckedAs S T r) where
-  pub accepts : (r ≡ Accepted) ↔ the.Accepted S T
+module _ {S : Service} {T : Tables} {r : Result Unit Refusal} (o : CheckedAs S T r) where
+  pub accepts : (r ≡ Ok tt) ↔ the.Accepted S T
   accepts = (λ e. to e o, λ a. checked_as_one o (all_well a refl))
     where
-      to : r ≡ Accepted → CheckedAs S T r → the.Accepted S T
+      to : r ≡ Ok tt → CheckedAs S T r → the.Accepted S T
       to e (unsupported_at k x f) = let z : ◌≡◌ {A = ℕ} 0 1 = cc in absurd (omega arith)
       to e (gap_at i v x f) = let z : ◌≡◌ {A = ℕ} 0 1 = cc in absurd (omega arith)
       to e (all_well x f) = x
 
-  pub refuses_label : (k : ℕ) → (r ≡ No (refusal unsupported k)) ↔ UnsupportedFirst S T k
+  pub refuses_label : (k : ℕ) → (r ≡ Err (refusal reason.Unsupported k)) ↔ UnsupportedFirst S T k
   unfolding number_told place_told
   refuses_label k = (λ e. to e o, λ x. checked_as_one o (unsupported_at k x refl))
     where
-      to : r ≡ No (refusal unsupported k) → CheckedAs S T r → UnsupportedFirst S T k
+      to : r ≡ Err (refusal reason.Unsupported k) → CheckedAs S T r → UnsupportedFirst S T k
       to e (unsupported_at j x f) = subst (UnsupportedFirst S T) (ap place_told (sym f ∙ e)) x
       to e (gap_at i v x f) = absurd (omega (arith, ap number_told (sym f ∙ e)))
       to e (all_well x f) = absurd (omega (arith, ap number_told (sym f ∙ e)))
 
-  pub refuses_gap : (run v : ℕ) → (r ≡ No (gap_refusal run v)) ↔ GapAtRun S T run v
+  pub refuses_gap : (run v : ℕ) → (r ≡ Err (gap_refusal run v)) ↔ GapAtRun S T run v
   unfolding number_told place_told stop_told
-  refuses_gap run v = (λ e. to e o, λ x. checked_as_one o (gap_at x.slot v x.first (ap (λ z. No (gap_refusal z v)) (sym x.stands))))
+  refuses_gap run v = (λ e. to e o, λ x. checked_as_one o (gap_at x.slot v x.first (ap (λ z. Err (gap_refusal z v)) (sym x.stands))))
     where
-      to : r ≡ No (gap_refusal run v) → CheckedAs S T r → GapAtRun S T run v
+      to : r ≡ Err (gap_refusal run v) → CheckedAs S T r → GapAtRun S T run v
       to e (unsupported_at j x f) = absurd (omega (arith, ap number_told (sym f ∙ e)))
       to e (gap_at j w x f) = record { slot = j; stands = ap place_told (sym f ∙ e); first = subst (GapFirst S T j) (ap stop_told (sym f ∙ e)) x }
       to e (all_well x f) = absurd (omega (arith, ap number_told (sym f ∙ e)))
 
 -- ---- what was judged good
 
-pub accepted_tables : (b : List ℕ) (given : Given) (list : List ℕ) (lent : ℕ) {r : Verdict} → Checked b given list lent r → r ≡ Accepted →
+pub accepted_tables : (b : List ℕ) (given : Given) (list : List ℕ) (lent : ℕ) {r : Result Unit Refusal} → Checked b given list lent r → r ≡ Ok tt →
     AcceptedTables b given list lent
 accepted_tables b given list lent {r} c e =
     go (judged_both (judged_tables b) (judged_of given list lent work_room) given.stops) (λ n q. both_good b given list lent n q) c
   where
-    go : (j : TablesRead) → ((n : ℕ) → j ≡ tables.Good n → BothGood b n given list × (work_room ≤ lent)) →
+    go : (j : Result ℕ Refusal) → ((n : ℕ) → j ≡ Ok n → BothGood b n given list × (work_room ≤ lent)) →
         Answered j (service_of given list) (tables_of b) r → AcceptedTables b given list lent
-    go (tables.No x) g f = let z : ◌≡◌ {A = ℕ} 0 1 = cc in absurd (omega arith)
-    go (tables.Good n) g o =
+    go (Err x) g f = let z : ◌≡◌ {A = ℕ} 0 1 = cc in absurd (omega arith)
+    go (Ok n) g o =
         let h = g n refl in
         record { file = subst (GoodFile b) h.0.same h.0.file; numbers = h.0.numbers; room = h.1; accepted = (accepts o).0 e }
 

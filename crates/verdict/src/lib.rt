@@ -1,7 +1,7 @@
 // The check of tables from anywhere against a timetable's numbers.
 #![tactic(auto)]
 
-ghost use Rattle.std.specs.Prelude.{◌≡◌, ◌+◌, ◌≤◌, ◌<◌, length, get_or};
+ghost use Rattle.std.specs.Prelude.{◌≡◌, ◌+◌, ◌*◌, ◌≤◌, ◌<◌, length, get_or};
 ghost use Rattle.loops.specs.Zero.{zeros};
 ghost use Rattle.loops.specs.Tells.{Tells};
 ghost use Rattle.kinds.specs.Limits.{most_stops};
@@ -17,23 +17,10 @@ ghost use Rattle.verdict.specs.Gaps.{NoGapOf, RideIn, Compared, GapIn};
 ghost use Rattle.verdict.specs.Verdict.{CheckedAs, Checked};
 
 use journeys::Ride;
-use kinds::{Label, Minute, Refusal, Stop};
-use tables::TablesRead;
-use timetable::{Given, SlotRead};
-
-// What the check answers.
-#[derive(Clone, Copy)]
-pub enum Verdict {
-    Accepted,
-    No(Refusal),
-}
-
-// The first gap: its slot and its stop.
-#[derive(Clone, Copy)]
-enum Gap {
-    At(usize, u16),
-    Nothing,
-}
+use kinds::{Label, Minute, Reason, Refusal, Stop};
+use label_sets::LabelSets;
+use tables::{Bounds, File};
+use timetable::{Day, Given};
 
 // The soonest one can be at a stop, by the minutes at which the hubs are reached from a ride's start, and from its end.
 #[derive(Clone, Copy)]
@@ -43,19 +30,13 @@ struct Soonest {
 }
 
 // A set of labels: its first label, and where it ends.
-#[derive(Clone, Copy)]
-struct Stretch {
-    from: usize,
-    to: usize,
-}
-
-fn set_at(room: &[u16], set: usize) -> Stretch
-    requires { set + 1 < length room.now }
-    ensures { (result.to ≡ get_or room.now (set + 1) 0) × (result.from ≡ get_or room.now set 0) }
+fn set_at(sets: LabelSets<'_>, set: usize) -> Bounds
+    requires { set < 2 * sets.file.stops }
+    ensures { (result.end ≡ get_or sets.entry.starts.now (set + 1) 0) × (result.start ≡ get_or sets.entry.starts.now set 0) }
 {
-    Stretch {
-        from: label_sets::start_at(room, set),
-        to: label_sets::start_at(room, set + 1),
+    Bounds {
+        start: sets.start_at(set),
+        end: sets.start_at(set + 1),
     }
 }
 
@@ -72,67 +53,56 @@ fn clear(room: &mut [u16], at: usize, n: u16)
     ensures { Cleared at (at + n) room.old room.new }
 {
     let end = at + (n as usize);
-    let mut p = at;
-    while p < end {
-        room[p] = Minute::UNREACHED;
-        p += 1;
-    }
+    room[at..end].fill(Minute::UNREACHED);
 }
 
 // One label more, for one who can be where it leaves at m: it counts where it leaves then or later, and the sooner arrival stays.
+#[tactic(auto, unfolding(crate::specs::Minutes::sooner_of))]
 fn sooner(e: u16, m: u16, l: Label) -> u16
     ensures { result ≡ sooner_of e m l }
 {
-    if l.dep < m {
-        return e;
-    }
-    if e <= l.arr {
-        return e;
-    }
-    l.arr
+    if l.dep < m { e } else { e.min(l.arr) }
 }
 
 // An out-label more of a stop that one leaves at d.
+#[tactic(auto, unfolding(crate::specs::Minutes::relaxed))]
 fn relax(room: &mut [u16], at: usize, d: u16, l: Label)
     requires { at + l.hub < length room.old }
     ensures { room.new ≡ relaxed at d l room.old }
 {
-    if l.dep < d {
-        return;
+    if d <= l.dep {
+        let hub = at + (l.hub as usize);
+        room[hub] = sooner(room[hub], d, l);
     }
-    let hub = at + (l.hub as usize);
-    room[hub] = sooner(room[hub], d, l);
 }
 
 // For each hub the least minute at which one can be there by an out-label of u that leaves at or after d; and u itself at d.
-fn reach(tables: &[u8], n: u16, u: u16, d: u16, at: usize, room: &mut [u16])
-    requires started { Started tables.now n room.old }
-    requires u_lt_n { u < n }
-    requires starts_room_le_at { (starts_room ≤ at) × (at + n ≤ length room.old) }
-    ensures reached { Reached (tables_of tables.now) u d ((tables_of tables.now).end outs u) (minutes room.new at) }
+fn reach(file: File<'_>, u: u16, d: u16, at: usize, room: &mut [u16])
+    requires started { Started file.bytes.now file.stops room.old }
+    requires u_lt_n { u < file.stops }
+    requires starts_room_le_at { (starts_room ≤ at) × (at + file.stops ≤ length room.old) }
+    ensures reached { Reached (tables_of file.entry.bytes.now) u d ((tables_of file.entry.bytes.now).end outs u) (minutes room.new at) }
     ensures same_before { SameBefore at room.old room.new }
 {
     let own = u as usize;
-    let outs = set_at(room, 2 * own);
-    let mut k = outs.from;
-    clear(room, at, n);
+    let outs = set_at(LabelSets { file, starts: room }, 2 * own);
+    clear(room, at, file.stops);
     room[at + own] = d;
-    while k < outs.to {
-        let l = tables::label_at(tables, n, k);
+    for k in outs.start..outs.end {
+        let l = file.label_at(k);
         relax(room, at, d, l);
-        k += 1;
     }
 }
 
 // From both ends of a ride: leaving its start with it, and leaving its end when it arrives.
-fn reach_both(tables: &[u8], n: u16, ride: Ride, room: &mut [u16])
-    requires started { Started tables.now n room.old }
-    requires ride_in { RideIn n ride }
+fn reach_both(file: File<'_>, ride: Ride, room: &mut [u16])
+    requires started { Started file.bytes.now file.stops room.old }
+    requires ride_in { RideIn file.stops ride }
     requires both_room_in_bounds { both_room ≤ length room.old }
-    ensures { Compared tables.now n room.new ride }
+    ensures { Compared file.entry.bytes.now file.entry.stops room.new ride }
 {
-    reach(tables, n, ride.from, ride.dep, NEAR, room);
-    reach(tables, n, ride.to, ride.arr, FAR, room);
+    reach(file, ride.from, ride.dep, NEAR, room);
+    reach(file, ride.to, ride.arr, FAR, room);
 }
 
 // ---- The arrivals at a stop.
@@ -160,20 +130,18 @@ fn with_in(s: Soonest, m: Soonest, l: Label) -> Soonest
 }
 
 // One pass over the in-labels of v.
-fn arrivals(tables: &[u8], n: u16, room: &[u16], v: u16) -> Soonest
-    requires started { Started tables.now n room.now }
-    requires v_lt_n { v < n }
+fn arrivals(file: File<'_>, room: &[u16], v: u16) -> Soonest
+    requires started { Started file.bytes.now file.stops room.now }
+    requires v_lt_n { v < file.stops }
     requires both_room_in_bounds { both_room ≤ length room.now }
-    ensures { Arrivals (tables_of tables.now) (near room.now) (far room.now) v
-        ((tables_of tables.now).end ins v) result }
+    ensures { Arrivals (tables_of file.entry.bytes.now) (near room.now) (far room.now) v
+        ((tables_of file.entry.bytes.now).end ins v) result }
 {
-    let ins = set_at(room, 2 * (v as usize) + 1);
+    let ins = set_at(LabelSets { file, starts: room }, 2 * (v as usize) + 1);
     let mut s = hub_minutes(room, v);
-    let mut k = ins.from;
-    while k < ins.to {
-        let l = tables::label_at(tables, n, k);
+    for k in ins.start..ins.end {
+        let l = file.label_at(k);
         s = with_in(s, hub_minutes(room, l.hub), l);
-        k += 1;
     }
     s
 }
@@ -181,100 +149,87 @@ fn arrivals(tables: &[u8], n: u16, room: &[u16], v: u16) -> Soonest
 // ---- The gaps.
 
 // Whether there is no gap at a ride and a stop.
-fn no_gap(tables: &[u8], n: u16, room: &[u16], ride: Ride, v: u16) -> bool
-    requires compared { Compared tables.now n room.now ride }
-    requires v_lt_n { v < n }
-    ensures { Tells (NoGapOf (tables_of tables.now) ride v) result }
+fn no_gap(file: File<'_>, room: &[u16], ride: Ride, v: u16) -> bool
+    requires compared { Compared file.bytes.now file.stops room.now ride }
+    requires v_lt_n { v < file.stops }
+    ensures { Tells (NoGapOf (tables_of file.entry.bytes.now) ride v) result }
 {
     if v == ride.from {
         return true;
     }
-    let soonest = arrivals(tables, n, room, v);
+    let soonest = arrivals(file, room, v);
     if v == ride.to {
-        return soonest.near <= ride.arr;
+        soonest.near <= ride.arr
+    } else {
+        soonest.near <= soonest.far
     }
-    soonest.near <= soonest.far
 }
 
-// The runs by number and, within a run, the stops by number; the first gap ends the search.
-fn first_gap(tables: &[u8], n: u16, given: Given, runs: &[u32], room: &mut [u16]) -> Gap
-    requires both_good { BothGood tables.now n given runs.now }
-    requires started { Started tables.now n room.old }
+// The runs by number and, within a run, the stops by number. The first gap, its slot and its stop, ends the search; `None` is for no gap.
+fn first_gap(file: File<'_>, day: Day<'_>, room: &mut [u16]) -> Option<(usize, u16)>
+    requires both_good { BothGood file.bytes.now file.stops day.given day.runs.now }
+    requires started { Started file.bytes.now file.stops room.old }
     requires work_room_in_bounds { work_room ≤ length room.old }
-    ensures { GapIn (service_of given runs.now) (tables_of tables.now) result }
+    ensures { GapIn (service_of day.entry.given day.entry.runs.now) (tables_of file.entry.bytes.now) result }
 {
-    let slots = timetable::slots(given);
-    let mut i = 0;
-    let mut v = 0;
-    'search: while i < slots {
-        let read = timetable::ride_at(given, runs, i);
-        match read {
-            SlotRead::NotInForce => {}
-            SlotRead::InForce(ride) => {
-                reach_both(tables, n, ride, room);
-                v = 0;
-                while v < n {
-                    if !no_gap(tables, n, room, ride, v) {
-                        break 'search;
-                    }
-                    v += 1;
-                }
+    let mut gap = None;
+    'search: for i in 0..day.slots() {
+        let Some(ride) = day.ride_at(i) else {
+            continue;
+        };
+        reach_both(file, ride, room);
+        for v in 0..file.stops {
+            if !no_gap(file, room, ride, v) {
+                gap = Some((i, v));
+                break 'search;
             }
         }
-        i += 1;
     }
-    if i < slots {
-        return Gap::At(i, v);
-    }
-    Gap::Nothing
+    gap
 }
 
 // ---- The check.
 
 // Labels first, then runs and stops. What the labels left in the room is then written over.
-fn compare(tables: &[u8], n: u16, given: Given, runs: &[u32], room: &mut [u16]) -> Verdict
-    requires { Marked tables.now n given runs.now room.old }
-    ensures { CheckedAs (service_of given runs.now) (tables_of tables.now) result }
+fn compare(file: File<'_>, day: Day<'_>, room: &mut [u16]) -> Result<(), Refusal>
+    requires { Marked file.bytes.now file.stops day.given day.runs.now room.old }
+    ensures { CheckedAs (service_of day.entry.given day.entry.runs.now) (tables_of file.entry.bytes.now) result }
 {
-    let k = support::first_unsupported(tables, n, room, given, runs);
-    if k < label_sets::start_at(room, 2 * (n as usize)) {
-        return Verdict::No(Refusal::new(Refusal::UNSUPPORTED, k as u32));
+    let sets = LabelSets { file, starts: room };
+    let k = support::first_unsupported(sets, day);
+    if k < sets.start_at(2 * (file.stops as usize)) {
+        return Err(Refusal::new(Reason::Unsupported, k as u32));
     }
-    let gap = first_gap(tables, n, given, runs, room);
-    match gap {
-        Gap::At(i, v) => {
-            let run = timetable::slot_run(i) as u32;
-            let at = v as u32;
-            Verdict::No(Refusal {
-                number: Refusal::GAP,
-                place: run,
-                stop: at,
-            })
-        }
-        Gap::Nothing => Verdict::Accepted,
+    if let Some((i, v)) = first_gap(file, day, room) {
+        return Err(Refusal {
+            reason: Reason::Gap,
+            place: timetable::slot_run(i) as u32,
+            stop: v as u32,
+        });
     }
+    Ok(())
 }
 
 // The answer; the working room is left as it was used.
-fn answer(tables: &[u8], given: Given, runs: &[u32], work: &mut [u16]) -> Verdict
+fn answer(tables: &[u8], given: Given, runs: &[u32], work: &mut [u16]) -> Result<(), Refusal>
     ensures { Checked tables.now given runs.now (length work.old) result }
 {
-    let judged = both::judge(tables, given, runs, work.len());
-    match judged {
-        TablesRead::No(x) => Verdict::No(x),
-        TablesRead::Good(n) => {
-            support::mark_all(tables, n, given, runs, work);
-            compare(tables, n, given, runs, work)
-        }
-    }
+    let stops = both::judge(tables, given, runs, work.len())?;
+    let file = File {
+        bytes: tables,
+        stops,
+    };
+    let day = Day { given, runs };
+    support::mark_all(file, day, work);
+    compare(file, day, work)
 }
 
-// The check of tables from anywhere against a timetable's numbers.
-pub fn check(tables: &[u8], given: Given, runs: &[u32], work: &mut [u16]) -> Verdict
+// The check of tables from anywhere against a timetable's numbers: they are accepted, or refused.
+pub fn check(tables: &[u8], given: Given, runs: &[u32], work: &mut [u16]) -> Result<(), Refusal>
     ensures checked { Checked tables.now given runs.now (length work.old) result }
     ensures work_after { work.new ≡ zeros work.old }
 {
     let verdict = answer(tables, given, runs, work);
-    loops::zero_u16(work);
+    loops::zero(work);
     verdict
 }

@@ -1,13 +1,11 @@
 -- A number's digits, byte by byte, and the loop over them: at most five, so that the value stays small.
-use Rattle.std.specs.Prelude.{ℕ, ◌^◌, ◌≤◌, ◌<◌, ◌≡◌, List, true, cond, get_or}
+use Rattle.std.specs.Prelude.{ℕ, ◌^◌, ◌≤◌, ◌<◌, ◌≡◌, List, true, cond, get_or, None, Option, Some}
 use Rattle.loops.specs.Every.{all_b}
 use Rattle.words.specs.Words.{digit0, is_digit_at, value_of}
-use Rattle.words.specs.declared.DigitsRead.{DigitsRead}
-use Rattle.words.specs.declared.DigitsRead.TheVariants.{Value, Other}
 
 -- n bytes from a on are all digits, and their value
-unfoldable pub digits_at : List ℕ → ℕ → ℕ → DigitsRead
-digits_at s a n = cond (all_b (is_digit_at s a) n) (Value (value_of s a n)) Other
+unfoldable pub digits_at : List ℕ → ℕ → ℕ → Option ℕ
+digits_at s a n = cond (all_b (is_digit_at s a) n) (Some (value_of s a n)) None
 
 -- the first k are digits, and v is their value
 pub record Digits (s : List ℕ) (a v k : ℕ) : Type 0 where

@@ -1,11 +1,11 @@
 -- Words of a text: where a byte next stands, what a stretch of bytes begins with or is, a number, a code.
 -- A stretch of the text s begins at a and goes up to, not including, e.
-use Rattle.std.specs.Prelude.{ℕ, zero, suc, ◌+◌, ◌*◌, ◌-◌, ◌≤◌, ◌≡◌, List, Bool, false, cond, length, get_or, ltb, leb, eqb}
+use Rattle.std.specs.Prelude.{ℕ, zero, suc, ◌+◌, ◌*◌, ◌-◌, ◌≤◌, ◌≡◌, List, Bool, false, cond, length, get_or, ltb, leb, eqb, Err, Ok, Result}
 use Rattle.loops.specs.Every.{all_b, same_b}
-use Rattle.kinds.specs.Refusals.{line_shape}
 use Rattle.kinds.specs.Kinds.{is_code_byte, is_code_length}
-use Rattle.words.specs.declared.NumberRead.{NumberRead}
-use Rattle.words.specs.declared.NumberRead.TheVariants.{Good, Bad}
+use Rattle.kinds.specs.declared.Reason.TheVariants as reason
+use Rattle.words.specs.declared.Number.{Number}
+use Rattle.kinds.specs.declared.Reason.{Reason}
 
 -- "Lines end in LF (byte 10)."
 abbrev pub lf : ℕ
@@ -65,11 +65,11 @@ value_of s a (suc n) = 10 * value_of s a n + (get_or s (a + n) 0 - digit0)
 
 -- The number that begins at a: it goes up to the next space, or to the end of the stretch where there is none;
 -- "any other form is refusal 2".
-unfoldable pub number_at : List ℕ → ℕ → ℕ → NumberRead
+unfoldable pub number_at : List ℕ → ℕ → ℕ → Result Number Reason
 number_at s a e =
     cond (is_number s a (seek space s a e - a))
-    (Good (record { value = value_of s a (seek space s a e - a); end = seek space s a e }))
-    (Bad line_shape)
+    (Ok (record { value = value_of s a (seek space s a e - a); end = seek space s a e }))
+    (Err reason.LineShape)
 
 abbrev pub is_code_byte_at : List ℕ → ℕ → ℕ → Bool
 is_code_byte_at s a k = is_code_byte (get_or s (a + k) 0)

@@ -1,6 +1,6 @@
 -- Laws of the words: the turns of the loops.
 use Prim.Native.Nat.{ℕ, zero, suc, ◌+◌, ◌-◌, ◌≤◌, ◌<◌}
-use Rattle.std.specs.Prelude.{◌≡◌, List, Bool, true, false, cond, length, get_or, ltb, eqb}
+use Rattle.std.specs.Prelude.{◌≡◌, List, Bool, true, false, cond, length, get_or, ltb, eqb, Err}
 use Rattle.std.proofs.Math.Path.{ap}
 use Rattle.std.proofs.Common.{◌∙◌, add-zero, eq-eqb, ne_eqb, ltb-false}
 use native.Mathlib.Omega.{arith}
@@ -8,9 +8,9 @@ use Rattle.loops.specs.ChainLaws.{past, stays}
 use Rattle.kinds.specs.Limits.{most_code}
 use Rattle.kinds.specs.Kinds.{is_code_length}
 use Rattle.kinds.specs.KindsLaws.{code_most}
-use Rattle.kinds.specs.Refusals.{line_shape}
 use Rattle.words.specs.Words.{space, seek_in, seek, begins_b, is_number, number_at, is_code}
-use Rattle.words.specs.declared.NumberRead.TheVariants.{Bad}
+use Rattle.kinds.specs.declared.Reason.{Reason}
+use Rattle.kinds.specs.declared.Reason.TheVariants as reason
 
 module _ (x : ℕ) (s : List ℕ) (k e : ℕ) where
   seek_turn : k < e → seek x s k e ≡ cond (eqb (get_or s k 0) x) k (seek x s (k + 1) e)
@@ -30,6 +30,9 @@ module _ (x : ℕ) (s : List ℕ) (k e : ℕ) where
   seek_end le =
       let n : e - k ≡ 0 = omega arith in
       ap (λ (m : ℕ). seek_in x s k m) n
+
+-- the turns of the search
+pub ruleset seek_turns = (seek_here, seek_more, seek_end)
 
 -- a search passes over m bytes that are not x
 pub seek_past : (x : ℕ) (s : List ℕ) (a e m : ℕ) → a + m ≤ e → ((k : ℕ) → k < m → get_or s (a + k) 0 ≡ x → ⊥) → seek x s a e ≡ seek x s (a + m) e
@@ -59,17 +62,17 @@ unfolding seek
 seek_high x s a e h = omega (arith, (seek_in_lem x s a (e - a)).1)
 
 -- "any other form is refusal 2", and no other refusal
-pub number_bad : (s : List ℕ) (a e n : ℕ) → number_at s a e ≡ Bad n → n ≡ line_shape
+pub number_bad : (s : List ℕ) (a e : ℕ) (n : Reason) → number_at s a e ≡ Err n → n ≡ reason.LineShape
 unfolding number_at
-number_bad s a e n h = let z = past (is_number s a (seek space s a e - a)) h (λ x. let y : ◌≡◌ {A = ℕ} 0 1 = cc in omega arith) in let f = z.1 in cc
+number_bad s a e n h = let f = (past (is_number s a (seek space s a e - a)) h (λ x. cc)).1 in cc
 
 -- a stretch that begins with a word is as long as the word at least
 pub begins_long : (s : List ℕ) (a e : ℕ) (w : List ℕ) → begins_b s a e w ≡ true → length w ≤ e - a
 unfolding begins_b
 begins_long s a e w h =
-    ltb-false (e - a) (length w) (past (ltb (e - a) (length w)) h (λ x. let y : ◌≡◌ {A = ℕ} 0 1 = cc in omega arith)).0
+    ltb-false (e - a) (length w) (past (ltb (e - a) (length w)) h (λ x. cc)).0
 
 -- a code is no longer than a code may be
 pub code_short : (s : List ℕ) (a n : ℕ) → is_code s a n ≡ true → n ≤ most_code
 unfolding is_code
-code_short s a n h = code_most n (stays (is_code_length n) h (λ x. let y : ◌≡◌ {A = ℕ} 0 1 = cc in omega arith)).0
+code_short s a n h = code_most n (stays (is_code_length n) h (λ x. cc)).0

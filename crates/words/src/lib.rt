@@ -1,13 +1,14 @@
 // Words of a text: where a byte next stands, what a stretch begins with or is, a number, a code.
-// A stretch is a slice with its start and its end, so that every place is counted from the text's first byte.
 #![tactic(auto)]
 
-ghost use Rattle.std.specs.Prelude.{◌≡◌, ◌+◌, ◌≤◌, length};
+ghost use Rattle.std.specs.Prelude.{◌≡◌, ◌+◌, ◌-◌, ◌≤◌, ◌<◌, length};
+ghost use Rattle.std.specs.List.{list_all};
 ghost use Rattle.loops.specs.Every.{same_b};
+ghost use Rattle.kinds.specs.Kinds.{is_code_byte};
 ghost use Rattle.words.specs.Words.{Sought, begins_b, is_word_b, number_at, is_code};
 ghost use Rattle.words.specs.Digits.{digits_at};
 
-use kinds::{Code, Refusal};
+use kinds::{Code, Reason};
 
 // A number, and where its field ends: at the next space, or at the end of the line.
 #[derive(Clone, Copy)]
@@ -16,131 +17,111 @@ pub struct Number {
     pub end: usize,
 }
 
-// A number, or the refusal of any other form.
+// A stretch of a text, from `from` up to, not including, `to`. Every place in it is counted from the text's first byte.
 #[derive(Clone, Copy)]
-pub enum NumberRead {
-    Good(Number),
-    Bad(u32),
-}
-
-// The next place of the byte x, or the end of the stretch.
-pub fn seek(s: &[u8], x: u8, from: usize, to: usize) -> usize
-    requires { (from ≤ to) × (to ≤ length s.now) }
-    ensures { Sought x s.now from to result }
-{
-    let mut k = from;
-    while k < to {
-        if s[k] == x {
-            return k;
-        }
-        k += 1;
-    }
-    k
+pub struct Stretch<'a> {
+    pub text: &'a [u8],
+    pub from: usize,
+    pub to: usize,
+    ghost low: { from ≤ to },
+    ghost high: { to ≤ length text.now },
 }
 
 // Whether n bytes of s from a on are those of t from b on.
+#[tactic(auto, using(crate::specs::StretchLaws::stretch_same))]
 pub fn same(s: &[u8], a: usize, t: &[u8], b: usize, n: usize) -> bool
     requires { (a + n ≤ length s.now) × (b + n ≤ length t.now) }
     ensures { result ≡ same_b s.now a t.now b n }
 {
-    let mut k = 0;
-    while k < n {
-        if s[a + k] != t[b + k] {
-            return false;
-        }
-        k += 1;
-    }
-    true
+    s[a..a + n] == t[b..b + n]
 }
 
-// Whether the stretch begins with the word.
-pub fn begins(s: &[u8], from: usize, to: usize, word: &[u8]) -> bool
-    requires { (from ≤ to) × (to ≤ length s.now) }
-    ensures { result ≡ begins_b s.now from to word.now }
-{
-    if to - from < word.len() {
-        return false;
-    }
-    same(s, from, word, 0, word.len())
-}
-
-// Whether the stretch is the word.
-pub fn is_word(s: &[u8], from: usize, to: usize, word: &[u8]) -> bool
-    requires { (from ≤ to) × (to ≤ length s.now) }
-    ensures { result ≡ is_word_b s.now from to word.now }
-{
-    if to - from == word.len() {
-        return same(s, from, word, 0, word.len());
-    }
-    false
-}
-
-#[derive(Clone, Copy)]
-enum DigitsRead {
-    Value(u32),
-    Other,
-}
-
-fn digits(s: &[u8], from: usize, n: usize) -> DigitsRead
+// The value of n bytes, or none where they are not all digits.
+#[tactic(auto, using(crate::specs::DigitsLaws::digits_turns))]
+fn digits(s: &[u8], from: usize, n: usize) -> Option<u32>
     requires { (from + n ≤ length s.now) × (n ≤ 5) }
     ensures { result ≡ digits_at s.now from n }
 {
-    let mut value: u32 = 0;
-    let mut k = 0;
-    while k < n {
+    let mut value = 0;
+    for k in 0..n {
         let b = s[from + k];
-        if b < b'0' {
-            return DigitsRead::Other;
-        }
-        if b'9' < b {
-            return DigitsRead::Other;
+        if !b.is_ascii_digit() {
+            return None;
         }
         value = 10 * value + (b - b'0') as u32;
-        k += 1;
     }
-    DigitsRead::Value(value)
+    Some(value)
 }
 
-// The number that begins at `from`, up to the next space or the end of the stretch.
-pub fn number_at(s: &[u8], from: usize, to: usize) -> NumberRead
-    requires { (from ≤ to) × (to ≤ length s.now) }
-    ensures { result ≡ number_at s.now from to }
+// Whether each byte is one of a code.
+fn all_code(s: &[u8]) -> bool
+    ensures { result ≡ list_all is_code_byte s.now }
 {
-    let end = seek(s, b' ', from, to);
-    let n = end - from;
-    if n == 0 {
-        return NumberRead::Bad(Refusal::LINE_SHAPE);
-    }
-    if 5 < n {
-        return NumberRead::Bad(Refusal::LINE_SHAPE);
-    }
-    if s[from] == b'0' {
-        if n == 1 {
-            return NumberRead::Good(Number { value: 0, end });
-        }
-        return NumberRead::Bad(Refusal::LINE_SHAPE);
-    }
-    let d = digits(s, from, n);
-    match d {
-        DigitsRead::Value(value) => NumberRead::Good(Number { value, end }),
-        DigitsRead::Other => NumberRead::Bad(Refusal::LINE_SHAPE),
-    }
+    s.iter().all(|b| Code::is_byte(*b))
 }
 
-// Whether n bytes from `from` on are a code.
-pub fn is_code(s: &[u8], from: usize, n: usize) -> bool
-    requires { from + n ≤ length s.now }
-    ensures { result ≡ is_code s.now from n }
-{
-    if !Code::is_length(n) {
-        return false;
-    }
-    let mut k = 0;
-    while k < n {
-        if !Code::is_byte(s[from + k]) {
-            return false;
+impl<'a> Stretch<'a> {
+    // The part behind place k.
+    pub fn after(self, k: usize) -> Stretch<'a>
+        requires { k < self.to }
+        ensures { (result.text.now ≡ self.entry.text.now) × (result.from ≡ k + 1) × (result.to ≡ self.entry.to) }
+    {
+        Stretch {
+            text: self.text,
+            from: k + 1,
+            to: self.to,
         }
-        k += 1;
     }
-    true
+
+    // The next place of the byte x, or the end of the stretch.
+    #[tactic(auto, using(crate::specs::WordsLaws::seek_turns))]
+    pub fn seek(self, x: u8) -> usize
+        ensures { Sought x self.entry.text.now self.entry.from self.entry.to result }
+    {
+        for k in self.from..self.to {
+            if self.text[k] == x {
+                return k;
+            }
+        }
+        self.to
+    }
+
+    // Whether the stretch begins with the word.
+    #[tactic(auto, unfolding(crate::specs::Words::begins_b))]
+    pub fn begins(self, word: &[u8]) -> bool
+        ensures { result ≡ begins_b self.entry.text.now self.entry.from self.entry.to word.now }
+    {
+        word.len() <= self.to - self.from && same(self.text, self.from, word, 0, word.len())
+    }
+
+    // Whether the stretch is the word.
+    #[tactic(auto, unfolding(crate::specs::Words::is_word_b))]
+    pub fn is_word(self, word: &[u8]) -> bool
+        ensures { result ≡ is_word_b self.entry.text.now self.entry.from self.entry.to word.now }
+    {
+        self.to - self.from == word.len() && same(self.text, self.from, word, 0, word.len())
+    }
+
+    // The number with which the stretch begins, up to the next space or the end of the stretch.
+    #[tactic(auto, unfolding(crate::specs::Words::number_at), using(crate::specs::DigitsLaws::number_forms))]
+    pub fn number(self) -> Result<Number, Reason>
+        ensures { result ≡ number_at self.entry.text.now self.entry.from self.entry.to }
+    {
+        let end = self.seek(b' ');
+        let n = end - self.from;
+        if n == 0 || 5 < n || (self.text[self.from] == b'0' && n != 1) {
+            return Err(Reason::LineShape);
+        }
+        let value = digits(self.text, self.from, n).ok_or(Reason::LineShape)?;
+        Ok(Number { value, end })
+    }
+
+    // Whether the stretch is a code.
+    #[tactic(auto, unfolding(crate::specs::Words::is_code), using(crate::specs::StretchLaws::stretch_all))]
+    pub fn is_code(self) -> bool
+        ensures { result ≡ is_code self.entry.text.now self.entry.from (self.entry.to - self.entry.from) }
+    {
+        let n = self.to - self.from;
+        Code::is_length(n) && all_code(&self.text[self.from..self.from + n])
+    }
 }

@@ -7,45 +7,23 @@ use Rattle.desk.specs.Told.{before, by_text, admits, refuses}
 use Rattle.desk.specs.ToldLaws.{read_whole, read_bad, whole_few, whole_accepts, whole_spellable, whole_refused}
 use Rattle.desk.proofs.admit.Goals as goal
 
+pub returns-in-Err-clause-admit_of : goal.returns-in-Err-clause-admit_of
+returns-in-Err-clause-admit_of c = let b = read_bad _ _ _ (sym c.in-Err.is ∙ c.read.ensures.value) in
+    refuses _ _ (by_text b.0 b.1 b.2 (ap (λ (x : Refusal). refusal_line (before (judged_tables c.args.tables.now) x)) b.3)) refl c.refuse_text.ensures.wrote
+
 pub overflow_cast-counts : goal.overflow_cast-counts
-overflow_cast-counts c = let g = read_whole _ _ _ (sym c.in-Read.is ∙ c.read-read.ensures.value) c.read-read.ensures.runs_after
-    c.read-read.ensures.codes_after in
-    omega (arith, whole_few g)
+overflow_cast-counts c = let r = c.read.ensures in
+    omega (arith, whole_few (read_whole _ _ _ (sym c.in-Ok.is ∙ r.value) r.runs_after r.codes_after))
 
-pub refuse-n-requires : goal.refuse-n-requires
-refuse-n-requires c = let g = read_whole _ _ _ (sym c.in-Read.is ∙ c.read-read.ensures.value) c.read-read.ensures.runs_after c.read-read.ensures.codes_after
-    in record {
-      told_room_in_bounds = c.requires;
-      spellable = whole_spellable g _ _ _ c.check-verdict.ensures.checked _ c.in-No-verdict.is;
-    }
+pub refuse-requires-clause-spellable : goal.refuse-requires-clause-spellable
+refuse-requires-clause-spellable c = let r = c.read.ensures in
+    whole_spellable (read_whole _ _ _ (sym c.in-Ok.is ∙ r.value) r.runs_after r.codes_after) _ _ _ c.check.ensures.checked _ c.in-Err-check.is
 
-pub returns-in-No : goal.returns-in-No
-returns-in-No c = let b = read_bad _ _ _ (sym c.in-No.is ∙ c.read-read.ensures.value) in record {
-  admit_of = refuses _ _ (by_text b.0 b.1 b.2 (ap (λ (x : Refusal). refusal_line (before (judged_tables c.args.tables.now) x)) b.3)) refl
-      c.refuse_text-n.ensures.wrote;
-  admit_short = c.refuse_text-n.ensures.upper_bound;
-  runs_after = c.read-read.ensures.runs_after;
-  codes_after = c.read-read.ensures.codes_after;
-  work_after = c.zero_u16.ensures;
-}
+pub returns-in-Err-check-clause-admit_of : goal.returns-in-Err-check-clause-admit_of
+returns-in-Err-check-clause-admit_of c = let r = c.read.ensures in let g = read_whole _ _ _ (sym c.in-Ok.is ∙ r.value) r.runs_after r.codes_after in
+    let t = c.refuse.ensures.by_index in
+    refuses _ _ (whole_refused g _ _ _ c.check.ensures.checked _ t.0 c.in-Err-check.is t.1) refl t.2
 
-pub returns-in-No-verdict : goal.returns-in-No-verdict
-returns-in-No-verdict c = let g = read_whole _ _ _ (sym c.in-Read.is ∙ c.read-read.ensures.value) c.read-read.ensures.runs_after
-    c.read-read.ensures.codes_after in record {
-      admit_of = refuses _ _ (whole_refused g _ _ _ c.check-verdict.ensures.checked _ c.refuse-n.ensures.by_index.0 c.in-No-verdict.is
-          c.refuse-n.ensures.by_index.1) refl c.refuse-n.ensures.by_index.2;
-      admit_short = c.refuse-n.ensures.upper_bound;
-      runs_after = c.read-read.ensures.runs_after;
-      codes_after = c.read-read.ensures.codes_after;
-      work_after = c.check-verdict.ensures.work_after;
-    }
-
-pub returns-in-Accepted : goal.returns-in-Accepted
-returns-in-Accepted c = let g = read_whole _ _ _ (sym c.in-Read.is ∙ c.read-read.ensures.value) c.read-read.ensures.runs_after c.read-read.ensures.codes_after
-    in record {
-      admit_of = admits _ (whole_accepts g _ _ _ c.check-verdict.ensures.checked c.in-Accepted.is) refl refl;
-      admit_short = tt;
-      runs_after = c.read-read.ensures.runs_after;
-      codes_after = c.read-read.ensures.codes_after;
-      work_after = c.check-verdict.ensures.work_after;
-    }
+pub returns-clause-admit_of : goal.returns-clause-admit_of
+returns-clause-admit_of c = let r = c.read.ensures in
+    admits _ (whole_accepts (read_whole _ _ _ (sym c.in-Ok.is ∙ r.value) r.runs_after r.codes_after) _ _ _ c.check.ensures.checked c.in_default.is) refl refl

@@ -1,91 +1,45 @@
-use Prim.Native.Nat.{ℕ, ◌-◌}
-use mathlib.Core.Path.{◌∙◌}
-use mathlib.Core.List.{List}
 use native.Mathlib.Omega.{arith}
-use lib.ListN.{length}
-use borrow.Rule.Slice.PartMut.{same_len_mid}
 use Rattle.opening.specs.OpenLaws.{first_in, second_in, first_shorter, second_shorter, few_first, few_second}
 use Rattle.opening.specs.OpenLaws.{both_listed, first_missing, second_missing, halves_missing}
 use Rattle.opening.proofs.+open_span.Goals as goal
 
 -- no pivot: open_run
-pub open_run-requires : goal.open_run-requires
-open_run-requires t c =
-    record {
-      starts_room_in_bounds = c.requires.ground.long;
-      by_departure = c.requires.ground.by_departure;
-      pivot_value = c.if-s-eq-NO_PIVOT.true;
-    }
-
 pub returns-then-s-eq-NO_PIVOT : goal.returns-then-s-eq-NO_PIVOT
 returns-then-s-eq-NO_PIVOT t c = c.open_run.ensures _
 
--- halves
-pub halves-parted-requires : goal.halves-parted-requires
-halves-parted-requires t c = record { started = c.requires.ground.started; span_in = c.requires.span_in; fact = c.if-s-eq-NO_PIVOT.false }
-
 -- the first label
-pub open_span-a-requires : goal.open_span-a-requires
-open_span-a-requires t c =
-    let M = rw c.in-Met.is at c.halves-parted.ensures in (
-      omega (arith, first_shorter c.requires.ground.started M),
-      (c.requires.ground, first_in c.requires.ground.started M),
-    )
-
--- the part of the list that it left
-pub offset_bounds-list-start : goal.offset_bounds-list-start
-offset_bounds-list-start t c = omega (arith, c.lesser_usize-start.ensures, c.open_span-a.auto.list)
+pub open_span-requires : goal.open_span-requires
+open_span-requires t c = let R = c.requires.ground.started in
+    (omega (arith, first_shorter R c.in_ok-h.ensures), (c.requires.ground, first_in R c.in_ok-h.ensures))
 
 -- the second label
-pub open_span-b-requires : goal.open_span-b-requires
-open_span-b-requires t c =
-    let M = rw c.in-Met.is at c.halves-parted.ensures in (
-      omega (arith, second_shorter c.requires.ground.started M),
-      (c.requires.ground, second_in c.requires.ground.started M),
-    )
+pub open_span-requires-2 : goal.open_span-requires-2
+open_span-requires-2 t c = let R = c.requires.ground.started in
+    (omega (arith, second_shorter R c.in_ok-h.ensures), (c.requires.ground, second_in R c.in_ok-h.ensures))
 
 -- the number of rides
 pub overflow_add-result : goal.overflow_add-result
 overflow_add-result t c =
     let R = c.requires.ground.started in
-    let M = rw c.in-Met.is at c.halves-parted.ensures in
-    let L = rw c.in-Rides.is at c.open_span-a.ensures in
-    let N = rw c.in-Rides-b.is at c.open_span-b.ensures in
-    omega (arith, few_first R M L, few_second R M N)
+    let M = c.in_ok-h.ensures in
+    omega (arith, few_first R M c.in_ok-k.ensures, few_second R M c.in_ok-m.ensures)
 
 -- the labels do not meet
-pub returns-in-Missing : goal.returns-in-Missing
-returns-in-Missing t c = halves_missing c.args.s c.if-s-eq-NO_PIVOT.false (rw c.in-Missing.is at c.halves-parted.ensures)
+pub returns-in_err-h : goal.returns-in_err-h
+returns-in_err-h t c = rw c.from_residual.ensures (halves_missing c.args.s c.if-s-eq-NO_PIVOT.false c.in_err-h.ensures)
 
 -- a ride of the first is missing
-pub returns-in-Missing-a : goal.returns-in-Missing-a
-returns-in-Missing-a t c =
-    let M = rw c.in-Met.is at c.halves-parted.ensures in
-    first_missing c.requires.ground.started M c.if-s-eq-NO_PIVOT.false (rw c.in-Missing-a.is at c.open_span-a.ensures)
+pub returns-in_err-k : goal.returns-in_err-k
+returns-in_err-k t c = rw c.from_residual-in_err-k.ensures
+    (first_missing c.requires.ground.started c.in_ok-h.ensures c.if-s-eq-NO_PIVOT.false c.in_err-k.ensures)
 
 -- a ride of the second is missing
-pub shape_of-list-in-Missing-b : goal.shape_of-list-in-Missing-b
-shape_of-list-in-Missing-b t c =
-    let x : List ℕ = c.open_span-a.new.list in
-    let k = c.lesser_usize-start.result in
-    same_len_mid {X = ℕ} k (length x - k) x c.open_span-b.new.list c.open_span-b.auto.list ∙ c.open_span-a.auto.list
-
-pub returns-in-Missing-b : goal.returns-in-Missing-b
-returns-in-Missing-b t c =
-    let M = rw c.in-Met.is at c.halves-parted.ensures in
-    second_missing c.requires.ground.started M c.if-s-eq-NO_PIVOT.false (rw c.in-Missing-b.is at c.open_span-b.ensures)
+pub returns-in_err-m : goal.returns-in_err-m
+returns-in_err-m t c = rw c.from_residual-in_err-m.ensures
+    (second_missing c.requires.ground.started c.in_ok-h.ensures c.if-s-eq-NO_PIVOT.false c.in_err-m.ensures)
 
 -- the rides of both
-pub shape_of-list-in-Rides-b : goal.shape_of-list-in-Rides-b
-shape_of-list-in-Rides-b t c =
-    let x : List ℕ = c.open_span-a.new.list in
-    let k = c.lesser_usize-start.result in
-    same_len_mid {X = ℕ} k (length x - k) x c.open_span-b.new.list c.open_span-b.auto.list ∙ c.open_span-a.auto.list
-
-pub returns-in-Rides-b : goal.returns-in-Rides-b
-returns-in-Rides-b t c =
+pub returns : goal.returns
+returns t c =
     let R = c.requires.ground.started in
-    let M = rw c.in-Met.is at c.halves-parted.ensures in
-    let L = rw c.in-Rides.is at c.open_span-a.ensures in
-    let N = rw c.in-Rides-b.is at c.open_span-b.ensures in
-    both_listed R M c.if-s-eq-NO_PIVOT.false L N c.open_span-a.auto.list c.lesser_usize-start.ensures
+    both_listed R c.in_ok-h.ensures c.if-s-eq-NO_PIVOT.false c.in_ok-k.ensures c.in_ok-m.ensures c.open_span.auto.list c.min-start.ensures

@@ -1,30 +1,23 @@
-use mathlib.Core.Path.{sym, ◌∙◌}
+use mathlib.Core.Path.{◌≡◌, sym, ◌∙◌}
+use mathlib.Core.Bool.{cond}
 use native.Mathlib.Omega.{arith}
-use borrow.Author.Tests.{lt-ltb, le-ltb}
+use Prim.Native.Nat.{ℕ, ◌≤◌}
+use Rattle.std.specs.Prelude.{List, length}
+use Rattle.std.proofs.Common.{le-ltb}
+use Rattle.kinds.specs.Limits.{runs_room, codes_room, most_text}
+use Rattle.kinds.specs.declared.Reason.TheVariants as reason
+use Rattle.words.specs.Words.{begins_b}
 use Rattle.words.specs.WordsLaws.{begins_long}
 use Rattle.lookup.specs.EnterLaws.{entered_none}
-use Rattle.reader.specs.Text.{read_text}
+use Rattle.reader.specs.Text.{bad, read_text, first_word}
 use Rattle.reader.specs.Reading.{lines_of}
 use Rattle.reader.proofs.read_text.Goals as goal
 
-pub returns-then-runs-lt-ROOM : goal.returns-then-runs-lt-ROOM
-unfolding read_text
-returns-then-runs-lt-ROOM c = record { value = rw (lt-ltb _ _ c.if-runs-lt-ROOM.true) c.refuse.ensures; filled_for = rw (lt-ltb _ _ c.if-runs-lt-ROOM.true) tt }
-
-pub returns-then-codes-lt-CODES_ROOM : goal.returns-then-codes-lt-CODES_ROOM
-unfolding read_text
-returns-then-codes-lt-CODES_ROOM c = record {
-  value = rw (le-ltb _ _ c.if-runs-lt-ROOM.false, lt-ltb _ _ c.if-codes-lt-CODES_ROOM.true) c.refuse-then-codes-lt-CODES_ROOM.ensures;
-  filled_for = rw (le-ltb _ _ c.if-runs-lt-ROOM.false, lt-ltb _ _ c.if-codes-lt-CODES_ROOM.true) tt;
-}
-
-pub returns-then-text-gt-MOST : goal.returns-then-text-gt-MOST
-unfolding read_text
-returns-then-text-gt-MOST c = record {
-  value = rw (le-ltb _ _ c.if-runs-lt-ROOM.false, le-ltb _ _ c.if-codes-lt-CODES_ROOM.false, lt-ltb _ _ c.if-text-gt-MOST.true)
-      c.refuse-then-text-gt-MOST.ensures;
-  filled_for = rw (le-ltb _ _ c.if-runs-lt-ROOM.false, le-ltb _ _ c.if-codes-lt-CODES_ROOM.false, lt-ltb _ _ c.if-text-gt-MOST.true) tt;
-}
+-- in rooms that are long enough, a text that is not too long is judged by how it begins
+judged : (s : List ℕ) (runs codes : ℕ) → runs_room ≤ runs → codes_room ≤ codes → length s ≤ most_text →
+    read_text s runs codes ≡ cond (begins_b s 0 (length s) first_word) (lines_of s (length first_word) runs codes) (bad reason.FirstLine 1)
+unfolding read_text lines_of
+judged s runs codes h k l = rw (le-ltb runs runs_room h, le-ltb codes codes_room k, le-ltb most_text (length s) l)
 
 pub read_lines-requires : goal.read_lines-requires
 read_lines-requires c = let l = begins_long _ _ _ _ (sym c.begins.ensures ∙ c.if-begins.true) in
@@ -38,19 +31,13 @@ read_lines-requires c = let l = begins_long _ _ _ _ (sym c.begins.ensures ∙ c.
       index = entered_none _ _;
     }
 
-pub returns-then-begins : goal.returns-then-begins
-unfolding read_text lines_of
-returns-then-begins c = let begins = sym c.begins.ensures ∙ c.if-begins.true in
-    record {
-      value = rw (le-ltb _ _ c.if-runs-lt-ROOM.false, le-ltb _ _ c.if-codes-lt-CODES_ROOM.false, le-ltb _ _ c.if-text-gt-MOST.false, begins)
-          c.read_lines.ensures.value;
-      filled_for = rw (le-ltb _ _ c.if-runs-lt-ROOM.false, le-ltb _ _ c.if-codes-lt-CODES_ROOM.false, le-ltb _ _ c.if-text-gt-MOST.false, begins)
-          c.read_lines.ensures.filled_for;
-    }
+pub returns-then-begins-clause-value : goal.returns-then-begins-clause-value
+returns-then-begins-clause-value c =
+    rw (judged _ _ _ c.if-runs-lt-ROOM.false c.if-codes-lt-CODES_ROOM.false c.if-text-gt-MOST.false, sym c.begins.ensures ∙ c.if-begins.true)
+    c.read_lines.ensures.value
 
 pub returns : goal.returns
-unfolding read_text
-returns c = let begins = sym c.begins.ensures ∙ c.if-begins.false in record {
-  value = rw (le-ltb _ _ c.if-runs-lt-ROOM.false, le-ltb _ _ c.if-codes-lt-CODES_ROOM.false, le-ltb _ _ c.if-text-gt-MOST.false, begins) c.refuse-2.ensures;
-  filled_for = rw (le-ltb _ _ c.if-runs-lt-ROOM.false, le-ltb _ _ c.if-codes-lt-CODES_ROOM.false, le-ltb _ _ c.if-text-gt-MOST.false, begins) tt;
-}
+returns c =
+    let e = judged c.args.text.now _ _ c.if-runs-lt-ROOM.false c.if-codes-lt-CODES_ROOM.false c.if-text-gt-MOST.false in
+    let begins = sym c.begins.ensures ∙ c.if-begins.false in
+    record { value = rw (e, begins, c.new-2.ensures); filled_for = rw (e, begins) tt }

@@ -1,8 +1,7 @@
-use native.Mathlib.Omega.{arith}
 use Rattle.printed.specs.WroteLaws.{wrote_then}
 use Rattle.report.specs.Lines.{accepted_line}
 use Rattle.report.proofs.accepted_line.Goals as goal
 
-pub returns : goal.returns
+pub returns-clause-wrote : goal.returns-clause-wrote
 unfolding accepted_line
-returns c = record { wrote = wrote_then c.put_text-a.ensures c.put_lf.ensures; upper_bound = omega (arith, c.put_text-a.ensures.end, c.put_lf.ensures.end) }
+returns-clause-wrote c = wrote_then c.put_text-a.ensures c.put_lf.ensures

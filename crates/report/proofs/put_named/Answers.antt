@@ -1,9 +1,5 @@
-use native.Mathlib.Omega.{arith}
 use Rattle.printed.specs.WroteLaws.{wrote_then}
 use Rattle.report.proofs.put_named.Goals as goal
 
-pub returns : goal.returns
-returns c = record {
-  wrote = wrote_then c.put_text-a.ensures c.put_code.ensures.wrote;
-  upper_bound = omega (arith, c.put_text-a.ensures.end, c.put_code.ensures.upper_bound);
-}
+pub returns-clause-wrote : goal.returns-clause-wrote
+returns-clause-wrote c = wrote_then c.put_text-a.ensures c.put_code.ensures.wrote

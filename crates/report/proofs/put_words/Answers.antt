@@ -6,5 +6,5 @@ use Rattle.report.proofs.put_words.Goals as goal
 pub put_line-requires : goal.put_line-requires
 put_line-requires c = record { most_words_in_bounds = search rules; s_value = refl }
 
-pub returns : goal.returns
-returns c = record { wrote = rw table_words at c.put_line.ensures.wrote; upper_bound = c.put_line.ensures.upper_bound }
+pub returns-clause-wrote : goal.returns-clause-wrote
+returns-clause-wrote c = rw table_words at c.put_line.ensures.wrote

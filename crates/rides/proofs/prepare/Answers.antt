@@ -3,10 +3,7 @@ use mathlib.Core.Path.{refl}
 use Rattle.rides.proofs.prepare.Goals as goal
 
 pub index-requires : goal.index-requires
-index-requires c = record {
-  good_numbers = c.requires.both_good.numbers;
-  given_in_bounds = rides_fit c.args.work.now _ c.requires.both_good c.requires.work_room_in_bounds c.starts.ensures;
-}
+index-requires c = rides_fit c.args.work.now _ c.requires.both_good c.requires.work_room_in_bounds c.starts.ensures
 
 pub returns : goal.returns
 returns c = record {

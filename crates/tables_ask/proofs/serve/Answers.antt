@@ -5,7 +5,7 @@ use Rattle.tables_ask.proofs.serve.Goals as goal
 
 pub answer-requires-clause-ready : goal.answer-requires-clause-ready
 answer-requires-clause-ready c =
-    let a = c.in-Yes.ensures in
+    let a = c.in-Ok.ensures in
     let q = c.read_asks-k in
     let n = c.args.n in
     let g = admitted_read a.admit_of refl a.runs_after a.codes_after in
