@@ -35,7 +35,7 @@ pub struct Ask {
     pub wanted: Wanted,
 }
 
-// What stands at a place of the input: a line, with the place of its LF; bytes without LF; or nothing more.
+// What stands at a place of the input: a line, with the place of its LF; bytes without LF; or nothing more. (No `Option`: the two ends are told apart.)
 #[derive(Clone, Copy)]
 pub enum Piece {
     Line(usize),

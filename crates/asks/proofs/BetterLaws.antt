@@ -17,7 +17,7 @@ fits_true (Short t t2) d a e = go (leb t d) (leb-true t d) e
   where
     go : (b : Bool) → (b ≡ true → t ≤ d) → cond b (leb a t2) false ≡ true → (t ≤ d) × (a ≤ t2)
     go true f q = (f refl, leb-true a t2 q)
-    go false f q = let z : ◌≡◌ {A = ℕ} 0 1 = cc in absurd (omega arith)
+    go false f q = absurd cc
 
 pub fits_false : (c : Criterion) (d a : ℕ) → fits_b c d a ≡ false → ¬ (Fits c d a)
 unfolding fits_b
@@ -36,14 +36,14 @@ ahead_true x y tie e = go (ltb x y) (eqb x y) (ltb-true x y) (eqb-true x y) e
     go : (b b' : Bool) → (b ≡ true → x < y) → (b' ≡ true → x ≡ y) → cond b true (cond b' tie false) ≡ true → (x < y) ⊎ ((x ≡ y) × (tie ≡ true))
     go true b' f g q = inl (f refl)
     go false true f g q = inr (g refl, q)
-    go false false f g q = let z : ◌≡◌ {A = ℕ} 0 1 = cc in absurd (omega arith)
+    go false false f g q = absurd cc
 
 pub ahead_false : (x y : ℕ) (tie : Bool) → ahead_b x y tie ≡ false → (y ≤ x) × (x ≡ y → tie ≡ false)
 unfolding ahead_b
 ahead_false x y tie e = go (ltb x y) (eqb x y) (ltb-false x y) (eqb-false x y) e
   where
     go : (b b' : Bool) → (b ≡ false → y ≤ x) → (b' ≡ false → x ≡ y → ⊥) → cond b true (cond b' tie false) ≡ false → (y ≤ x) × (x ≡ y → tie ≡ false)
-    go true b' f g q = let z : ◌≡◌ {A = ℕ} 0 1 = cc in absurd (omega arith)
+    go true b' f g q = absurd cc
     go false true f g q = (f refl, λ _. q)
     go false false f g q = (f refl, λ h. absurd (g refl h))
 

@@ -118,10 +118,10 @@ module _ (n from to : ℕ) (w : Wanted) where
       go : {x : Result Asked Refusal} → AskIs n from to w x → x ≡ Ok q →
           Permitted n from to w × (q ≡ record { from = from; to = to; criterion = criterion_of w })
       go (permitted p e) f = (p, cc)
-      go (no_stop h e) f = let z : ◌≡◌ {A = ℕ} 0 1 = cc in absurd (omega arith)
-      go (equal_stops h s e) f = let z : ◌≡◌ {A = ℕ} 0 1 = cc in absurd (omega arith)
-      go (beyond_range s o e) f = let z : ◌≡◌ {A = ℕ} 0 1 = cc in absurd (omega arith)
-      go (crossed s r c e) f = let z : ◌≡◌ {A = ℕ} 0 1 = cc in absurd (omega arith)
+      go (no_stop h e) f = absurd cc
+      go (equal_stops h s e) f = absurd cc
+      go (beyond_range s o e) f = absurd cc
+      go (crossed s r c e) f = absurd cc
 
 -- ---- each refusal exactly for its reason
 

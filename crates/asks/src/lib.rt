@@ -268,6 +268,7 @@ pub fn answered(tables: &[u8], from: u32, to: u32, w: Wanted) -> Result<Journey,
     )
 }
 
+// The three asks by name: docs/PROMISES.md has them so, and `kiosk` calls them.
 // early(u, v, t): departure at least t; least arrival, then latest departure.
 pub fn early(tables: &[u8], from: u32, to: u32, t: u32) -> Result<Journey, Refusal>
     ensures { Answers (tables_of tables.now) (asked tables.now from to (wanted.Early t)) result }

@@ -63,12 +63,12 @@ told (Err r) = 0
 module _ {lent n k : ℕ} {tables : List ℕ} where
   built_in : {S : Service} → BuiltOf S lent (success n k) tables → n ≤ lent
   unfolding told
-  built_in (over j R h p q) = let z : ◌≡◌ {A = ℕ} 0 1 = cc in absurd (omega arith)
-  built_in (short j R h l p q) = let z : ◌≡◌ {A = ℕ} 0 1 = cc in absurd (omega arith)
+  built_in (over j R h p q) = absurd cc
+  built_in (short j R h l p q) = absurd cc
   built_in {S} (built j f R h l g m p q) = let e : n ≡ place_of S.stops j = ap told p in omega arith
 
   pub built_within : {given : Given} {runs : List ℕ} {work : ℕ} → BuildOf given runs work lent (success n k) tables → n ≤ lent
-  built_within (refused r e p q) = let z : ◌≡◌ {A = ℕ} 0 1 = cc in absurd (omega arith)
+  built_within (refused r e p q) = absurd cc
   built_within (good e b) = built_in b
 
 -- ---- one result at most
@@ -110,6 +110,6 @@ build_one x y (refused r e p q) (refused r' e' p' q') =
     let z = sym e ∙ e' in
     let same : r ≡ r' = cc in
     (p ∙ ap Err same ∙ sym p', q ∙ sym q')
-build_one x y (refused r e p q) (good e' b) = let z = sym e ∙ e' in let w : ◌≡◌ {A = ℕ} 0 1 = cc in absurd (omega arith)
-build_one x y (good e b) (refused r' e' p' q') = let z = sym e ∙ e' in let w : ◌≡◌ {A = ℕ} 0 1 = cc in absurd (omega arith)
+build_one x y (refused r e p q) (good e' b) = let z = sym e ∙ e' in absurd cc
+build_one x y (good e b) (refused r' e' p' q') = let z = sym e ∙ e' in absurd cc
 build_one x y (good e b) (good e' b') = built_one x y b b'

@@ -160,7 +160,7 @@ module _ {S : Service} (G : GoodService S) (few : S.stops ≤ most_stops) (some-
           where
             is_none : Dec ((label_at b (start_of b set + i)).pivot ≡ no_pivot) → (label_at b (start_of b set + i)).pivot ≡ no_pivot
             is_none (yes z) = z
-            is_none (no z) = let y = sym e ∙ pivot_some _ z in absurd (let q : ◌≡◌ {A = ℕ} 0 1 = cc in omega arith)
+            is_none (no z) = let y = sym e ∙ pivot_some _ z in absurd cc
         pivots (some w) e f =
             let (q, z) = pivot_is (label_at b (start_of b set + i)).pivot w e in
             let (g, l, p, r) = f w refl in

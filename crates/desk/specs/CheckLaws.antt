@@ -118,7 +118,7 @@ module _ (b : List ℕ) (given : Given) (list : List ℕ) (r : Refusal) where
         run = λ h. slot_run_below given i (gap_slot given list x);
         stop = λ h. omega (arith, x.stop, good_stops g);
       })
-  compared g (all_well x e) = let z : ◌≡◌ {A = ℕ} 0 1 = cc in absurd (omega arith)
+  compared g (all_well x e) = absurd cc
 
   not_compared : Neither r.reason → (r.reason ≡ reason.LabelBad → judged_tables b ≡ Err r) → Places b given r
   not_compared n w = record {

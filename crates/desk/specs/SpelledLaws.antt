@@ -55,7 +55,7 @@ module _ {b : List ℕ} {n : ℕ} (g : Room b n) where
       go false h = label_in s k lt (ltb-false k ((tables_of b).end outs s) h) high
 
 no_side : outs ≡ ins → ⊥
-no_side e = let z : ◌≡◌ {A = ℕ} 0 1 = cc in omega arith
+no_side e = cc
 
 module _ (b : List ℕ) {k u v d a u' v' d' a' : ℕ} {p p' : Option ℕ} where
   pub label_one : LabelAt (tables_of b) k u v d a p → LabelAt (tables_of b) k u' v' d' a' p' → SameLabel u v d a p u' v' d' a' p'

@@ -35,7 +35,7 @@ module _ (s : List ℕ) (roomR roomC : ℕ) where
       go : (o : ReadOutcome) → read_text s roomR roomC ≡ o → Ok k ≡ answer_of o → numbers ≡ runs_of o roomR → codes ≡ codes_of o roomC →
           ReadWhole s roomR roomC k numbers codes
       go (whole w) q e n c = record { read = w; whole = q; counts = cc; numbers_are = n; codes_are = c }
-      go (bad m p) q e n c = let z : ◌≡◌ {A = ℕ} 0 1 = cc in absurd (omega arith)
+      go (bad m p) q e n c = absurd cc
 
   -- a text that was refused
   pub read_bad : {x : Refusal} → Err x ≡ answer_of (read_text s roomR roomC) → (why : Reason) × (place : ℕ) × (read_text s roomR roomC ≡ bad why place) ×
@@ -44,7 +44,7 @@ module _ (s : List ℕ) (roomR roomC : ℕ) where
     where
       go : (o : ReadOutcome) → read_text s roomR roomC ≡ o → Err x ≡ answer_of o → (why : Reason) × (place : ℕ) ×
           (read_text s roomR roomC ≡ bad why place) × (x ≡ refusal why place)
-      go (whole w) q e = let z : ◌≡◌ {A = ℕ} 0 1 = cc in absurd (omega arith)
+      go (whole w) q e = absurd cc
       go (bad m p) q e = (m, p, q, cc)
 
   -- only with room enough is a text read
@@ -92,7 +92,7 @@ module _ {s b : List ℕ} {roomR roomC lent : ℕ} {l m : List ℕ} {a : Result 
   told_refused {n} e = go t
     where
       go : AdmitOf s b roomR roomC lent l m a → (xs : List ℕ) × CheckTold s b roomR roomC lent xs × Wrote l 0 xs m n
-      go (admits k x f h) = let z : ◌≡◌ {A = ℕ} 0 1 = cc in absurd (omega arith)
+      go (admits k x f h) = absurd cc
       go (refuses xs i x f w) = let h : i ≡ n = cc in (xs, told.refused x, subst (Wrote l 0 xs m) h w)
 
   pub told_accepted : {k : Counts} → a ≡ Ok k → CheckTold s b roomR roomC lent accepted_line × (m ≡ l)
@@ -100,14 +100,14 @@ module _ {s b : List ℕ} {roomR roomC lent : ℕ} {l m : List ℕ} {a : Result 
     where
       go : AdmitOf s b roomR roomC lent l m a → CheckTold s b roomR roomC lent accepted_line × (m ≡ l)
       go (admits i x f h) = (told.accepted i x refl, h)
-      go (refuses xs i x f w) = let z : ◌≡◌ {A = ℕ} 0 1 = cc in absurd (omega arith)
+      go (refuses xs i x f w) = absurd cc
 
   pub admitted_accepts : {k : Counts} → a ≡ Ok k → Accepts s b roomR roomC lent k
   admitted_accepts {k} e = go t
     where
       go : AdmitOf s b roomR roomC lent l m a → Accepts s b roomR roomC lent k
       go (admits i x f h) = let same : i ≡ k = cc in subst (Accepts s b roomR roomC lent) same x
-      go (refuses xs i x f w) = let z : ◌≡◌ {A = ℕ} 0 1 = cc in absurd (omega arith)
+      go (refuses xs i x f w) = absurd cc
 
   -- of accepted tables: the text was read, and what the two rooms hold is good
   pub admitted_read : {k : Counts} {numbers codes : List ℕ} → a ≡ Ok k → numbers ≡ runs_of (read_text s roomR roomC) roomR →
@@ -124,15 +124,15 @@ module _ {s b : List ℕ} {roomR roomC lent : ℕ} {l m : List ℕ} {a : Result 
           let r : numbers ≡ w.numbers = en ∙ ap (λ (o : ReadOutcome). runs_of o roomR) q in
           let c : codes ≡ w.codes = ec ∙ ap (λ (o : ReadOutcome). codes_of o roomC) q in
           (rw (← same, x.stops, x.runs, r, c) g, read_short s roomR roomC w q, read_roomy s roomR roomC w q)
-      go (refuses xs i x f w) = let z : ◌≡◌ {A = ℕ} 0 1 = cc in absurd (omega arith)
+      go (refuses xs i x f w) = absurd cc
 
 -- ---- the build
 
 -- tables that were built fit into what was lent
 built_short : {S : Service} {lent : ℕ} {answer : Result Built Refusal} {tables : List ℕ} {long labels : ℕ} → BuiltOf S lent answer tables →
     answer ≡ success long labels → long ≤ lent
-built_short (over k r l e t) f = let z : ◌≡◌ {A = ℕ} 0 1 = cc in absurd (omega arith)
-built_short (short k r l h e t) f = let z : ◌≡◌ {A = ℕ} 0 1 = cc in absurd (omega arith)
+built_short (over k r l e t) f = absurd cc
+built_short (short k r l h e t) f = absurd cc
 built_short {S} {lent} {long = long} {labels} (built k file r l h q n e t) f =
     let m : ◌≡◌ {A = Built} (record { length = long; labels = labels }) (record { length = place_of S.stops k; labels = k }) = cc in
     omega (arith, ap (λ (x : Built). x.length) m)
@@ -140,7 +140,7 @@ built_short {S} {lent} {long = long} {labels} (built k file r l h q n e t) f =
 pub build_short : {given : Given} {runs : List ℕ} {work lent : ℕ} {answer : Result Built Refusal} {tables : List ℕ} {long labels : ℕ} →
     BuildOf given runs work lent answer tables →
     answer ≡ success long labels → long ≤ lent
-build_short (refused r j e t) f = let z : ◌≡◌ {A = ℕ} 0 1 = cc in absurd (omega arith)
+build_short (refused r j e t) f = absurd cc
 build_short (good j x) f = built_short x f
 
 -- the build of what was read is the build of what the text means

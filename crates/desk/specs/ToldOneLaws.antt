@@ -57,13 +57,13 @@ same_bad : {o : ReadOutcome} {n m : Reason} {p q : ℕ} → o ≡ bad n p → o 
 same_bad e f = (cc, cc)
 
 not_both : {o : ReadOutcome} {w : Sofar} {n : Reason} {p : ℕ} → o ≡ whole w → o ≡ bad n p → ⊥
-not_both e f = let z : ◌≡◌ {A = ℕ} 0 1 = cc in omega arith
+not_both e f = cc
 
 same_refusal : {x y : Refusal} → ◌≡◌ {A = Result Unit Refusal} (Err x) (Err y) → x ≡ y
 same_refusal e = cc
 
 not_accepted : {x : Refusal} → ◌≡◌ {A = Result Unit Refusal} (Ok tt) (Err x) → ⊥
-not_accepted e = let z : ◌≡◌ {A = ℕ} 0 1 = cc in omega arith
+not_accepted e = cc
 
 module _ {s b : List ℕ} {roomR roomC lent : ℕ} where
   pub refused_one : {xs ys : List ℕ} → Refused s b roomR roomC lent xs → Refused s b roomR roomC lent ys → xs ≡ ys
@@ -124,7 +124,7 @@ same_built {m} {k} {i} {j} e =
     (ap (λ (x : Built). x.length) f, ap (λ (x : Built). x.labels) f)
 
 not_built : {m k : ℕ} {x : Refusal} → success m k ≡ Err x → ⊥
-not_built e = let z : ◌≡◌ {A = ℕ} 0 1 = cc in omega arith
+not_built e = cc
 
 same_told : {l m n xs ys : List ℕ} {i j : ℕ} → xs ≡ ys → Wrote l 0 xs m i → Wrote l 0 ys n j → (m ≡ n) × (i ≡ j)
 same_told {l} {m} {i = i} e w v = wrote_one (subst (λ (x : List ℕ). Wrote l 0 x m i) e w) v

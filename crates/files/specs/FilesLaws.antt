@@ -8,14 +8,14 @@ pub name_short : (n : ℕ) → is_name n ≡ true → n ≤ name_most
 name_short n e = go (eqb n 0) e
   where
     go : (b : Bool) → cond b false (leb n name_most) ≡ true → n ≤ name_most
-    go true f = let z : ◌≡◌ {A = ℕ} 0 1 = cc in absurd (omega arith)
+    go true f = absurd cc
     go false f = leb-true n name_most f
 
 pub part_long : (path : List ℕ) (k : ℕ) → length (part_name path k) ≡ length path + part_more
 part_long path k = length-append path (bytes ".part" ++ two_digits k)
 
 pub not_both : (b : Bool) → b ≡ true → b ≡ false → ⊥
-not_both b e f = let z : ◌≡◌ {A = ℕ} 0 1 = cc in omega arith
+not_both b e f = cc
 
 pub counts_of : (n : ℕ) (l : List ℕ) → n ≤ length l → IsPrefixLen n l
 counts_of n l h = (h, sym (length-take-le n l h))

@@ -186,7 +186,7 @@ pub fn read_named(rt: &HostRuntime, i: usize, most: u32, buf: &mut [u8]) -> Opti
 
 // ---- Writing.
 
-// The number's two digits.
+// The number's two digits, the first one 0 too.
 fn put_two(name: &mut [u8], at: usize, k: u8) -> usize
     requires at_in_bounds { at + 2 ≤ length name.old }
     requires k_lt_most_parts { k < most_parts }

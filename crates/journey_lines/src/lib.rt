@@ -46,7 +46,8 @@ impl Turn {
     }
 }
 
-// What is still to be printed: the refusal of the timetable or of the build, what the asks get, or nothing.
+// What is still to be printed: the refusal of the timetable or of the build, what the asks get, or nothing. (No `Result`: a refusal is a line to print like
+// others. No closure for the next step: contracts speak of stages, and they are kept between two lines.)
 #[derive(Clone, Copy)]
 pub enum Stage {
     Refused(Refusal),

@@ -17,13 +17,13 @@ count_is n h k = rw (ne_eqb n 0 (λ e. omega arith), le-leb n most_stops k) refl
 pub stop_count : (n : ℕ) → is_stop_count n ≡ true → (1 ≤ n) × (n ≤ most_stops)
 unfolding is_stop_count
 stop_count n e =
-    let z = past (eqb n 0) e (λ x. let y : ◌≡◌ {A = ℕ} 0 1 = cc in omega arith) in
+    let z = past (eqb n 0) e (λ x. cc) in
     let l = leb-true n most_stops z.1 in
     (omega (arith, eqb-false n 0 z.0), l)
 
 pub code_most : (n : ℕ) → is_code_length n ≡ true → n ≤ most_code
 unfolding is_code_length
-code_most n e = leb-true n most_code (past (eqb n 0) e (λ x. let y : ◌≡◌ {A = ℕ} 0 1 = cc in omega arith)).1
+code_most n e = leb-true n most_code (past (eqb n 0) e (λ x. cc)).1
 
 pub run_count_is : (n : ℕ) → n ≤ most_runs → is_run_count n ≡ true
 unfolding is_run_count
@@ -36,7 +36,7 @@ run_count n e = leb-true n most_runs e
 pub stop_good : (n count : ℕ) (s : Stop) → stop_of n count ≡ Some s → (s.0 ≡ n) × (n < count)
 unfolding stop_of
 stop_good n count s e =
-    let z = stays (ltb n count) e (λ x. let y : ◌≡◌ {A = ℕ} 0 1 = cc in omega arith) in
+    let z = stays (ltb n count) e (λ x. cc) in
     let f = z.1 in
     (cc, ltb-true n count z.0)
 
@@ -61,13 +61,13 @@ pub run_good : (stops from to dep arr t : ℕ) (r : Run) → run_of stops from t
     GoodRun stops from to dep arr t × (r ≡ record { from = from; to = to; dep = dep; arr = arr; trip = t })
 unfolding run_of
 run_good stops from to dep arr t r e =
-    let z₁ = past (leb stops from) e (λ x. let y : ◌≡◌ {A = ℕ} 0 1 = cc in omega arith) in
-    let z₂ = past (leb stops to) z₁.1 (λ x. let y : ◌≡◌ {A = ℕ} 0 1 = cc in omega arith) in
-    let z₃ = past (eqb from to) z₂.1 (λ x. let y : ◌≡◌ {A = ℕ} 0 1 = cc in omega arith) in
-    let z₄ = past (leb arr dep) z₃.1 (λ x. let y : ◌≡◌ {A = ℕ} 0 1 = cc in omega arith) in
-    let z₅ = past (ltb last_minute arr) z₄.1 (λ x. let y : ◌≡◌ {A = ℕ} 0 1 = cc in omega arith) in
-    let z₆ = past (eqb t 0) z₅.1 (λ x. let y : ◌≡◌ {A = ℕ} 0 1 = cc in omega arith) in
-    let z₇ = past (ltb most_trip t) z₆.1 (λ x. let y : ◌≡◌ {A = ℕ} 0 1 = cc in omega arith) in
+    let z₁ = past (leb stops from) e (λ x. cc) in
+    let z₂ = past (leb stops to) z₁.1 (λ x. cc) in
+    let z₃ = past (eqb from to) z₂.1 (λ x. cc) in
+    let z₄ = past (leb arr dep) z₃.1 (λ x. cc) in
+    let z₅ = past (ltb last_minute arr) z₄.1 (λ x. cc) in
+    let z₆ = past (eqb t 0) z₅.1 (λ x. cc) in
+    let z₇ = past (ltb most_trip t) z₆.1 (λ x. cc) in
     let f = z₇.1 in (
       record {
         from_stop = leb-false stops from z₁.0;
@@ -111,9 +111,9 @@ pub label_good : (stops owner hub dep arr pivot : ℕ) (l : Label) → label_of 
     GoodLabel stops owner hub dep arr pivot × (l ≡ record { hub = hub; dep = dep; arr = arr; pivot = pivot })
 unfolding label_of
 label_good stops owner hub dep arr pivot l e =
-    let z₁ = past (leb owner hub) e (λ x. let y : ◌≡◌ {A = ℕ} 0 1 = cc in omega arith) in
-    let z₂ = past (leb arr dep) z₁.1 (λ x. let y : ◌≡◌ {A = ℕ} 0 1 = cc in omega arith) in
-    let z₃ = past (ltb last_minute arr) z₂.1 (λ x. let y : ◌≡◌ {A = ℕ} 0 1 = cc in omega arith) in
+    let z₁ = past (leb owner hub) e (λ x. cc) in
+    let z₂ = past (leb arr dep) z₁.1 (λ x. cc) in
+    let z₃ = past (ltb last_minute arr) z₂.1 (λ x. cc) in
     go (leb-false owner hub z₁.0) (leb-false arr dep z₂.0) (ltb-false last_minute arr z₃.0) (eqb pivot no_pivot) (eqb-true pivot no_pivot) z₃.1
   where
     good : Option Label
@@ -124,9 +124,9 @@ label_good stops owner hub dep arr pivot l e =
         GoodLabel stops owner hub dep arr pivot × (l ≡ record { hub = hub; dep = dep; arr = arr; pivot = pivot })
     go h₁ h₂ h₃ true p f = (record { low = h₁; later = h₂; last = h₃; pivoted = inl (p refl) }, cc)
     go h₁ h₂ h₃ false p f =
-        let z₅ = past (leb pivot hub) f (λ x. let y : ◌≡◌ {A = ℕ} 0 1 = cc in omega arith) in
-        let z₆ = past (leb stops pivot) z₅.1 (λ x. let y : ◌≡◌ {A = ℕ} 0 1 = cc in omega arith) in
-        let z₇ = past (eqb pivot owner) z₆.1 (λ x. let y : ◌≡◌ {A = ℕ} 0 1 = cc in omega arith) in
+        let z₅ = past (leb pivot hub) f (λ x. cc) in
+        let z₆ = past (leb stops pivot) z₅.1 (λ x. cc) in
+        let z₇ = past (eqb pivot owner) z₆.1 (λ x. cc) in
         let g = z₇.1 in (
           record {
             low = h₁;

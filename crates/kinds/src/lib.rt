@@ -76,6 +76,7 @@ pub struct Minute(pub u16);
 impl Minute {
     pub const LAST: u16 = 2879;
     // In the place of a minute: not reached. It is later than every minute, so that the sooner of two is always right.
+    // (No `Option`: it stands in lent rooms of 16-bit numbers.)
     pub const UNREACHED: u16 = 65535;
 
     pub fn last() -> u16
@@ -235,11 +236,26 @@ impl Label {
     pub fn new(stops: u16, owner: u16, hub: u16, dep: u16, arr: u16, pivot: u16) -> Option<Label>
         ensures { result ≡ label_of stops owner hub dep arr pivot }
     {
-        if owner <= hub || arr <= dep || Minute::LAST < arr {
+        // early ends, not tests joined into one: this is asked at each label of a file
+        if owner <= hub {
             return None;
         }
-        if pivot != Label::NO_PIVOT && (pivot <= hub || stops <= pivot || pivot == owner) {
+        if arr <= dep {
             return None;
+        }
+        if Minute::LAST < arr {
+            return None;
+        }
+        if pivot != Label::NO_PIVOT {
+            if pivot <= hub {
+                return None;
+            }
+            if stops <= pivot {
+                return None;
+            }
+            if pivot == owner {
+                return None;
+            }
         }
         Some(Label {
             hub,
@@ -276,7 +292,11 @@ impl Code {
     pub fn is_byte(b: u8) -> bool
         ensures { result ≡ is_code_byte b }
     {
-        Code::LEAST_BYTE <= b && b <= Code::MOST_BYTE
+        // an early end: this is asked at each byte of a code
+        if b < Code::LEAST_BYTE {
+            return false;
+        }
+        b <= Code::MOST_BYTE
     }
 
     #[tactic(auto, unfolding(crate::specs::Kinds::is_code_length), using(std::proofs::lemmas::Bool::Decides::nat_tests))]

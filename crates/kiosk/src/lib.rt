@@ -148,7 +148,7 @@ pub fn kiosk_check(
     *answer = four(verdict::check(tables, given, runs, work));
 }
 
-// How many numbers of two bytes an ask with rides needs as working room.
+// How many numbers of two bytes an ask with rides needs as working room. (As many as the check; C has both names.)
 pub fn kiosk_rides_room() -> u32
     ensures { result ≡ work_room }
 {

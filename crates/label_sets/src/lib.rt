@@ -100,7 +100,7 @@ fn is_at(l: Label, hub: u16, m: Moment) -> bool
     }
 }
 
-// Where a label with this hub and this moment stands or would stand, from `from` on and up to `to`.
+// Where a label with this hub and this moment stands or would stand, from `from` on and up to `to`. (No `Option`: it is a place in either case.)
 #[tactic(auto, using(crate::specs::SeekLaws::seek_turns))]
 pub fn seek(file: File<'_>, from: usize, to: usize, hub: u16, m: Moment) -> usize
     requires { (from ≤ to) × (to ≤ labels_of file.bytes.now) }

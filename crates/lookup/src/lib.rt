@@ -30,7 +30,7 @@ pub fn code_at(codes: &[u32], j: usize) -> Code
     }
 }
 
-// How many slots the index has: numbers of 64 bits, 0 where no stop stands.
+// How many slots the index has: numbers of 64 bits, a mark and a stop in each, 0 where no stop stands. (No map: there is no heap.)
 pub const SLOTS: usize = 2048;
 
 // In how many slots a code is looked for.

@@ -53,4 +53,4 @@ dec_map f g (no n) = no (λ b. n (g b))
 -- whether a test passed
 unfoldable pub dec_true : (b : Bool) → Dec (b ≡ true)
 dec_true true = yes refl
-dec_true false = no (λ e. let z : ◌≡◌ {A = ℕ} 0 1 = cc in omega arith)
+dec_true false = no (λ e. cc)

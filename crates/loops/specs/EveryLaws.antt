@@ -26,7 +26,7 @@ all_at p n k a lt = go (p k) (λ e. all_fails p n k lt e)
   where
     go : (b : Bool) → (b ≡ false → all_b p n ≡ false) → b ≡ true
     go true f = refl
-    go false f = let z : true ≡ false = sym a ∙ f refl in absurd (let y : ◌≡◌ {A = ℕ} 0 1 = cc in omega arith)
+    go false f = let z : true ≡ false = sym a ∙ f refl in absurd cc
 
 pub all_of : (p : ℕ → Bool) (n : ℕ) → ((k : ℕ) → k < n → p k ≡ true) → all_b p n ≡ true
 unfolding all_b

@@ -28,7 +28,7 @@ module _ {A : Type 0} (f : ℕ → Option A) where
 
   both_none : (x y : Option A) → or_else x y ≡ none → (x ≡ none) × (y ≡ none)
   both_none none y e = (refl, e)
-  both_none (some x) y e = let z : ◌≡◌ {A = ℕ} 0 1 = cc in absurd (omega arith)
+  both_none (some x) y e = absurd cc
 
   pub first_of_clear : (n k : ℕ) → first_of f n ≡ none → k < n → f k ≡ none
   unfolding first_of
@@ -44,7 +44,7 @@ module _ {A : Type 0} (f : ℕ → Option A) where
 
   pub first_of_found : (n : ℕ) {x : A} → first_of f n ≡ some x → FoundAt f n x
   unfolding first_of
-  first_of_found zero e = let z : ◌≡◌ {A = ℕ} 0 1 = cc in absurd (omega arith)
+  first_of_found zero e = absurd cc
   first_of_found (suc n) {x} e = go (first_of f n) e (λ h. first_of_found n h) (λ h k l. first_of_clear n k h l)
     where
       go : (o : Option A) → or_else o (f n) ≡ some x → (o ≡ some x → FoundAt f n x) → (o ≡ none → (k : ℕ) → k < n → f k ≡ none) → FoundAt f (suc n) x

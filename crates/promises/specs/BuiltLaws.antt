@@ -44,12 +44,12 @@ built_length e = let s = same_built e in (ap (λ (b : Built). b.length) s, ap (�
 
 pub build_wrote : (given : Given) (list : List ℕ) (work lent long labels : ℕ) (bytes : List ℕ) →
     BuildOf given list work lent (success long labels) bytes → BuildWrote given list work lent long labels bytes
-build_wrote given list work lent long labels bytes (refused r j a t) = let z : ◌≡◌ {A = ℕ} 0 1 = cc in absurd (omega arith)
+build_wrote given list work lent long labels bytes (refused r j a t) = absurd cc
 build_wrote given list work lent long labels bytes (good j b) = from_built b
   where
     from_built : BuiltOf (service_of given list) lent (success long labels) bytes → BuildWrote given list work lent long labels bytes
-    from_built (over k R h a t) = let z : ◌≡◌ {A = ℕ} 0 1 = cc in absurd (omega arith)
-    from_built (short k R h l a t) = let z : ◌≡◌ {A = ℕ} 0 1 = cc in absurd (omega arith)
+    from_built (over k R h a t) = absurd cc
+    from_built (short k R h l a t) = absurd cc
     from_built (built k file R few h F l a t) =
         let e : long ≡ length file = (built_length a).0 ∙ sym l in
         let n = numbers.judged_good given list work build_room j in
@@ -124,21 +124,21 @@ pub refused_zero : {given : Given} {list : List ℕ} {work lent : ℕ} {a : Resu
 refused_zero {lent = lent} (refused q j a t) e = all_zero lent t
 refused_zero {lent = lent} (good j (over k R h a t)) e = all_zero lent t
 refused_zero {lent = lent} (good j (short k R h l a t)) e = all_zero lent t
-refused_zero (good j (built k file R few h F l a t)) e = let z : ◌≡◌ {A = ℕ} 0 1 = cc in absurd (omega arith)
+refused_zero (good j (built k file R few h F l a t)) e = absurd cc
 
 -- what is left of the tables where the ask is refused, and where it is answered
 pub left_refused : (x : Result Journey Refusal) (bytes : List ℕ) → is_err x ≡ true → zeros bytes ≡ left_by x bytes
 left_refused (Err r) bytes e = refl
-left_refused (Ok j) bytes e = let z : ◌≡◌ {A = ℕ} 0 1 = cc in absurd (omega arith)
+left_refused (Ok j) bytes e = absurd cc
 
 pub left_answered : (x : Result Journey Refusal) (bytes : List ℕ) → is_err x ≡ false → bytes ≡ left_by x bytes
 left_answered (Ok j) bytes e = refl
-left_answered (Err r) bytes e = let z : ◌≡◌ {A = ℕ} 0 1 = cc in absurd (omega arith)
+left_answered (Err r) bytes e = absurd cc
 
 pub rides_left_refused : (x : Result Listed Refusal) (bytes : List ℕ) → is_err x ≡ true → zeros bytes ≡ left_by_rides x bytes
 rides_left_refused (Err r) bytes e = refl
-rides_left_refused (Ok j) bytes e = let z : ◌≡◌ {A = ℕ} 0 1 = cc in absurd (omega arith)
+rides_left_refused (Ok j) bytes e = absurd cc
 
 pub rides_left_answered : (x : Result Listed Refusal) (bytes : List ℕ) → is_err x ≡ false → bytes ≡ left_by_rides x bytes
 rides_left_answered (Ok j) bytes e = refl
-rides_left_answered (Err r) bytes e = let z : ◌≡◌ {A = ℕ} 0 1 = cc in absurd (omega arith)
+rides_left_answered (Err r) bytes e = absurd cc

@@ -75,4 +75,4 @@ demand_3_fault b given runs lent g e h r c = from_outcome (outcome b g e h c)
     from_outcome : CheckedAs (service_of given runs) (tables_of b) (Err r) → RealFault (service_of given runs) (tables_of b) r
     from_outcome (unsupported_at k u f) = no_support k (unsupported_real (good_service g) (good_tables (judged_good b given.stops e)) u.fault) (same f)
     from_outcome (gap_at i v u f) = missed i v (gap_real (good_tables (judged_good b given.stops e)) u.supported u.fault) (same f)
-    from_outcome (all_well a f) = let z : ◌≡◌ {A = ℕ} 0 1 = cc in absurd (omega arith)
+    from_outcome (all_well a f) = absurd cc

@@ -132,7 +132,7 @@ output_tells t xs O = from_start O.tables O.stage O.starts O.prints
     from_builds : (k : Counts) (r : Refusal) (tables : List ℕ) →
         Builds (given_of k.stops k.runs) (runs_of (read_input t runs_room codes_room) runs_room) file_room (Err r) tables →
         answer_of (read_input t runs_room codes_room) ≡ Ok k → xs ≡ refused_line r → OutputTells t xs
-    from_builds k r tables (demands.the_rule file labels f c b a z) e P = let y : ◌≡◌ {A = ℕ} 0 1 = cc in absurd (omega arith)
+    from_builds k r tables (demands.the_rule file labels f c b a z) e P = absurd cc
     from_builds k r tables (demands.too_many labels c m a z) e P = let same : r ≡ refusal reason.LabelsOver 0 = cc in too_many k labels e c m
         (P ∙ ap refused_line same)
 

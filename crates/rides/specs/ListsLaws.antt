@@ -43,7 +43,7 @@ module _ (b : List ℕ) (given : Given) (runs : List ℕ) (lent from to : ℕ) (
     where
       go : (t : Result ℕ Refusal) → ((m : ℕ) → t ≡ Ok m → BothGood b m given runs × (work_room ≤ lent)) →
           if_tables t (λ m. ask_read m from to w) ≡ Ok q → Asking b n given runs lent q
-      go (Err r) f h = let z : ◌≡◌ {A = ℕ} 0 1 = cc in absurd (omega arith)
+      go (Err r) f h = absurd cc
       go (Ok m) f h =
           let g = f m refl in
           subst (λ m. Asking b m given runs lent q) (g.0.same ∙ sym same) (record { both = g.0; room = g.1; good = ask_good m from to w q h })

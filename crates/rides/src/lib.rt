@@ -159,6 +159,7 @@ pub fn answered(
     answer
 }
 
+// The three asks by name: docs/PROMISES.md has them so, and `kiosk` calls them.
 // early(u, v, t): departure at least t; least arrival, then latest departure.
 pub fn early(
     tables: &[u8],

@@ -296,6 +296,7 @@ pub fn write_count(bytes: &mut [u8], set: usize, count: u16)
     put_two(bytes, HEADER + 2 * set, count);
 }
 
+// The low byte of any number, as the contract says: no `try_from`.
 fn pivot_byte(p: u16) -> u8
     ensures { result ≡ pivot_byte p }
 {

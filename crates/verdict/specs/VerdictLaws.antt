@@ -90,8 +90,8 @@ module _ {S : Service} {T : Tables} {r : Result Unit Refusal} (o : CheckedAs S T
   accepts = (λ e. to e o, λ a. checked_as_one o (all_well a refl))
     where
       to : r ≡ Ok tt → CheckedAs S T r → the.Accepted S T
-      to e (unsupported_at k x f) = let z : ◌≡◌ {A = ℕ} 0 1 = cc in absurd (omega arith)
-      to e (gap_at i v x f) = let z : ◌≡◌ {A = ℕ} 0 1 = cc in absurd (omega arith)
+      to e (unsupported_at k x f) = absurd cc
+      to e (gap_at i v x f) = absurd cc
       to e (all_well x f) = x
 
   pub refuses_label : (k : ℕ) → (r ≡ Err (refusal reason.Unsupported k)) ↔ UnsupportedFirst S T k
@@ -121,7 +121,7 @@ accepted_tables b given list lent {r} c e =
   where
     go : (j : Result ℕ Refusal) → ((n : ℕ) → j ≡ Ok n → BothGood b n given list × (work_room ≤ lent)) →
         Answered j (service_of given list) (tables_of b) r → AcceptedTables b given list lent
-    go (Err x) g f = let z : ◌≡◌ {A = ℕ} 0 1 = cc in absurd (omega arith)
+    go (Err x) g f = absurd cc
     go (Ok n) g o =
         let h = g n refl in
         record { file = subst (GoodFile b) h.0.same h.0.file; numbers = h.0.numbers; room = h.1; accepted = (accepts o).0 e }

@@ -36,7 +36,7 @@ pub fn same(s: &[u8], a: usize, t: &[u8], b: usize, n: usize) -> bool
     s[a..a + n] == t[b..b + n]
 }
 
-// The value of n bytes, or none where they are not all digits.
+// The value of n bytes, or none where they are not all digits. (std's `parse` takes a whole `&str`, a sign and leading zeros too.)
 #[tactic(auto, using(crate::specs::DigitsLaws::digits_turns))]
 fn digits(s: &[u8], from: usize, n: usize) -> Option<u32>
     requires { (from + n ≤ length s.now) × (n ≤ 5) }
@@ -73,7 +73,7 @@ impl<'a> Stretch<'a> {
         }
     }
 
-    // The next place of the byte x, or the end of the stretch.
+    // The next place of the byte x, or the end of the stretch. (No `Option`: a field ends there in either case.)
     #[tactic(auto, using(crate::specs::WordsLaws::seek_turns))]
     pub fn seek(self, x: u8) -> usize
         ensures { Sought x self.entry.text.now self.entry.from self.entry.to result }
