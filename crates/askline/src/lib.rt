@@ -126,7 +126,7 @@ fn shape_of(line: Stretch<'_>) -> Result<Shape, Reason>
 }
 
 // What the line asks: refused by 2, then 5.
-#[tactic(auto, using(crate::specs::AskLineLaws::shape_within), unfolding(crate::specs::AskLine::ask_line))]
+#[tactic(auto, using(crate::specs::AskLineLaws::shape_within, crate::specs::AskLineLaws::shape_ill), unfolding(crate::specs::AskLine::ask_line))]
 pub fn ask_at(known: Known<'_>, line: Stretch<'_>) -> Result<Ask, Reason>
     ensures { result ≡ ask_line known.entry.text.now known.entry.codes.now known.entry.stops line.entry.text.now line.entry.from line.entry.to }
 {
