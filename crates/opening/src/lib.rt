@@ -11,13 +11,13 @@ ghost use Rattle.tables.specs.Good.{GoodFile};
 ghost use Rattle.timetable.specs.Slots.{service_of};
 ghost use Rattle.departures.specs.Departures.{ByDeparture};
 ghost use Rattle.label_sets.specs.Starts.{starts_room};
-ghost use Rattle.label_sets.specs.Sets.{SpanIn};
+ghost use Rattle.label_sets.specs.Sets.{SpanIn, PartedAs};
 ghost use Rattle.opening.specs.Opening.{behind_starts, Ground, SpanOpens, OpenedAs, OpenedInto};
 ghost use Rattle.opening.specs.Choosing.{Joins, HubAs, WayAs};
 
 use journeys::Ride;
 use kinds::Label;
-use label_sets::{LabelSets, Moment, Span};
+use label_sets::{LabelSets, Meeting, Moment, Span};
 use tables::File;
 use timetable::Day;
 
@@ -31,12 +31,12 @@ pub struct Answer {
 }
 
 // With no pivot: the lowest-numbered ride with the label's ends and minutes, its run listed where there is room; or `None`, the ride is missing.
-fn open_run(day: Day<'_>, room: &[u16], s: Span, list: &mut [u32]) -> Option<usize>
+fn open_run(day: &Day<'_>, room: &[u16], s: Span, list: &mut [u32]) -> Option<usize>
     requires starts_room_in_bounds { starts_room ≤ length room.now }
-    requires by_departure { ByDeparture day.given day.runs.now (behind_starts room.now) }
+    requires by_departure { ByDeparture day.now.given day.now.runs.now (behind_starts room.now) }
     requires pivot_value { s.pivot ≡ no_pivot }
     ensures { (T : Tables) →
-        OpenedAs (SpanOpens (service_of day.entry.given day.entry.runs.now) T s) list.old list.new result }
+        OpenedAs (SpanOpens (service_of day.now.given day.now.runs.now) T s) list.old list.new result }
 {
     let index = &room[label_sets::STARTS..];
     let ride = Ride {
@@ -45,7 +45,7 @@ fn open_run(day: Day<'_>, room: &[u16], s: Span, list: &mut [u32]) -> Option<usi
         dep: s.dep,
         arr: s.arr,
     };
-    let slot = departures::find(day, index, ride);
+    let slot = departures::find(*day, index, ride);
     if day.slots() <= slot {
         return None;
     }
@@ -55,35 +55,46 @@ fn open_run(day: Day<'_>, room: &[u16], s: Span, list: &mut [u32]) -> Option<usi
     Some(1)
 }
 
+// The two labels that meet at a label's pivot. Not inlined: what it copies of the sets is off the stack again before a call of `open_span` is nested.
+#[inline(never)]
+fn halves(sets: &LabelSets<'_>, s: &Span) -> Option<Meeting>
+    requires good { GoodFile sets.now.file.bytes.now sets.now.file.stops }
+    requires span_in { SpanIn sets.now.file.stops s.now }
+    requires with_pivot { s.now.pivot ≡ no_pivot → ⊥ }
+    ensures { PartedAs (tables_of sets.now.file.bytes.now) s.now result }
+{
+    sets.halves(*s)
+}
+
 // With a pivot: the two labels that meet there, each opened in turn. The second label's rides go straight into the part of the list that
 // the first label's left. Where the list is full the count goes on: a ride that is missing is found in any case. `None` where a ride or a label is
-// missing, or the two labels don't meet. The sets and the day are borrowed, not copied: up to 2,879 calls are nested, and a copy nearly doubles
-// the stack that each takes.
-fn open_span(sets: &LabelSets<'_>, day: &Day<'_>, s: Span, list: &mut [u32]) -> Option<usize>
+// missing, or the two labels don't meet. Sets, day and span are borrowed, not copied: up to 2,879 calls are nested, and each takes 96 bytes of stack (copies
+// and all inlined, 432).
+fn open_span(sets: &LabelSets<'_>, day: &Day<'_>, s: &Span, list: &mut [u32]) -> Option<usize>
     requires ground { Ground sets.now.file.bytes.now sets.now.file.stops sets.now.starts.now day.now.given day.now.runs.now }
-    requires span_in { SpanIn sets.now.file.stops s }
-    ensures { OpenedAs (SpanOpens (service_of day.now.given day.now.runs.now) (tables_of sets.now.file.bytes.now) s)
+    requires span_in { SpanIn sets.now.file.stops s.now }
+    ensures { OpenedAs (SpanOpens (service_of day.now.given day.now.runs.now) (tables_of sets.now.file.bytes.now) s.now)
         list.old list.new result }
 {
     if s.pivot == Label::NO_PIVOT {
-        return open_run(*day, sets.starts, s, list);
+        return open_run(day, sets.starts, *s, list);
     }
-    let h = sets.halves(s)?;
+    let h = halves(sets, s)?;
     let first = Span {
         to: s.pivot,
         arr: h.mid,
         pivot: h.first,
-        ..s
+        ..*s
     };
-    let k = open_span(sets, day, first, list)?;
+    let k = open_span(sets, day, &first, list)?;
     let start = k.min(list.len());
     let second = Span {
         from: s.pivot,
         dep: h.start,
         pivot: h.second,
-        ..s
+        ..*s
     };
-    let m = open_span(sets, day, second, &mut list[start..])?;
+    let m = open_span(sets, day, &second, &mut list[start..])?;
     Some(k + m)
 }
 
@@ -154,7 +165,7 @@ fn open_chosen(sets: LabelSets<'_>, day: Day<'_>, answer: Answer, list: &mut [u3
         arr: answer.arr,
         pivot,
     };
-    open_span(&sets, &day, s, list)
+    open_span(&sets, &day, &s, list)
 }
 
 // The same; and where one is missing nothing is listed. The starts of the sets are the front of the working room, which is given whole: behind

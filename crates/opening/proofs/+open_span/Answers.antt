@@ -4,8 +4,8 @@ use Rattle.opening.specs.OpenLaws.{both_listed, first_missing, second_missing, h
 use Rattle.opening.proofs.+open_span.Goals as goal
 
 -- no pivot: open_run
-pub returns-then-s-eq-NO_PIVOT : goal.returns-then-s-eq-NO_PIVOT
-returns-then-s-eq-NO_PIVOT t c = c.open_run.ensures _
+pub returns-then-s : goal.returns-then-s
+returns-then-s t c = c.open_run.ensures _
 
 -- the first label
 pub open_span-requires : goal.open_span-requires
@@ -26,20 +26,20 @@ overflow_add-result t c =
 
 -- the labels do not meet
 pub returns-in_err-h : goal.returns-in_err-h
-returns-in_err-h t c = rw c.from_residual.ensures (halves_missing c.args.s c.if-s-eq-NO_PIVOT.false c.in_err-h.ensures)
+returns-in_err-h t c = rw c.from_residual.ensures (halves_missing c.args.s.now c.if-s.false c.in_err-h.ensures)
 
 -- a ride of the first is missing
 pub returns-in_err-k : goal.returns-in_err-k
 returns-in_err-k t c = rw c.from_residual-in_err-k.ensures
-    (first_missing c.requires.ground.started c.in_ok-h.ensures c.if-s-eq-NO_PIVOT.false c.in_err-k.ensures)
+    (first_missing c.requires.ground.started c.in_ok-h.ensures c.if-s.false c.in_err-k.ensures)
 
 -- a ride of the second is missing
 pub returns-in_err-m : goal.returns-in_err-m
 returns-in_err-m t c = rw c.from_residual-in_err-m.ensures
-    (second_missing c.requires.ground.started c.in_ok-h.ensures c.if-s-eq-NO_PIVOT.false c.in_err-m.ensures)
+    (second_missing c.requires.ground.started c.in_ok-h.ensures c.if-s.false c.in_err-m.ensures)
 
 -- the rides of both
 pub returns : goal.returns
 returns t c =
     let R = c.requires.ground.started in
-    both_listed R c.in_ok-h.ensures c.if-s-eq-NO_PIVOT.false c.in_ok-k.ensures c.in_ok-m.ensures c.open_span.auto.list c.min-start.ensures
+    both_listed R c.in_ok-h.ensures c.if-s.false c.in_ok-k.ensures c.in_ok-m.ensures c.open_span.auto.list c.min-start.ensures

@@ -3,4 +3,4 @@ use Rattle.opening.proofs.+open_span.Given as goal
 
 -- the label's duration
 abbrev pub decreases-open_span : goal.decreases-open_span
-decreases-open_span l = l.s.arr - l.s.dep
+decreases-open_span l = l.s.now.arr - l.s.now.dep
