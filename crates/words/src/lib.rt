@@ -36,6 +36,21 @@ pub fn same(s: &[u8], a: usize, t: &[u8], b: usize, n: usize) -> bool
     s[a..a + n] == t[b..b + n]
 }
 
+// Whether the word stands from `at` on. Byte by byte, where `same` compares slices: for a word of a few bytes that is known when a program is built, a call
+// takes longer than the bytes.
+#[tactic(auto, using(loops::specs::EveryLaws::same_none, loops::specs::EveryLaws::same_more, loops::specs::EveryLaws::same_fails))]
+fn stands(text: &[u8], at: usize, word: &[u8]) -> bool
+    requires { at + length word.now ≤ length text.now }
+    ensures { result ≡ same_b text.now at word.now 0 (length word.now) }
+{
+    for k in 0..word.len() {
+        if text[at + k] != word[k] {
+            return false;
+        }
+    }
+    true
+}
+
 // The value of n bytes, or none where they are not all digits. (std's `parse` takes a whole `&str`, a sign and leading zeros too.)
 #[tactic(auto, using(crate::specs::DigitsLaws::digits_turns))]
 fn digits(s: &[u8], from: usize, n: usize) -> Option<u32>
@@ -51,6 +66,21 @@ fn digits(s: &[u8], from: usize, n: usize) -> Option<u32>
         value = 10 * value + (b - b'0') as u32;
     }
     Some(value)
+}
+
+// The next place of the byte x from `from` on, or `to`. Not inlined: with its callers' sums in the loop each byte takes eight instructions in place of five.
+#[tactic(auto, using(crate::specs::WordsLaws::seek_turns))]
+#[inline(never)]
+fn seek_in(text: &[u8], from: usize, to: usize, x: u8) -> usize
+    requires { (from ≤ to) × (to ≤ length text.now) }
+    ensures { Sought x text.now from to result }
+{
+    for k in from..to {
+        if text[k] == x {
+            return k;
+        }
+    }
+    to
 }
 
 // Whether each byte is one of a code.
@@ -74,16 +104,10 @@ impl<'a> Stretch<'a> {
     }
 
     // The next place of the byte x, or the end of the stretch. (No `Option`: a field ends there in either case.)
-    #[tactic(auto, using(crate::specs::WordsLaws::seek_turns))]
     pub fn seek(self, x: u8) -> usize
         ensures { Sought x self.entry.text.now self.entry.from self.entry.to result }
     {
-        for k in self.from..self.to {
-            if self.text[k] == x {
-                return k;
-            }
-        }
-        self.to
+        seek_in(self.text, self.from, self.to, x)
     }
 
     // Whether the stretch begins with the word.
@@ -91,7 +115,7 @@ impl<'a> Stretch<'a> {
     pub fn begins(self, word: &[u8]) -> bool
         ensures { result ≡ begins_b self.entry.text.now self.entry.from self.entry.to word.now }
     {
-        word.len() <= self.to - self.from && same(self.text, self.from, word, 0, word.len())
+        word.len() <= self.to - self.from && stands(self.text, self.from, word)
     }
 
     // Whether the stretch is the word.
@@ -99,7 +123,7 @@ impl<'a> Stretch<'a> {
     pub fn is_word(self, word: &[u8]) -> bool
         ensures { result ≡ is_word_b self.entry.text.now self.entry.from self.entry.to word.now }
     {
-        self.to - self.from == word.len() && same(self.text, self.from, word, 0, word.len())
+        self.to - self.from == word.len() && stands(self.text, self.from, word)
     }
 
     // The number with which the stretch begins, up to the next space or the end of the stretch.
