@@ -374,7 +374,9 @@ pub fn checked(text: &[u8], tables: &[u8], out: &mut [u8]) -> usize
 
 // ---- The build.
 
-// The tables of the timetable text, and what is told of them; `Err` has how many bytes tell why none were made.
+// The tables of the timetable text, and what is told of them; `Err` has how many bytes tell why none were made. Not inlined: in `main` the branches of the
+// builder's scan come to lie across lines of 32 bytes, and on processors that mind it a build takes a quarter longer (docs/LOOK-BACK.md).
+#[inline(never)]
 pub fn built(text: &[u8], tables: &mut [u8], out: &mut [u8]) -> Result<Made, usize>
     requires { told_room ≤ length out.old }
     ensures build_told { BuildTold text.now (length tables.old) tables.new out.old out.new result }
